@@ -1,0 +1,5 @@
+pub mod Cursors
+pub mod Windows
+pub mod Dones
+pub mod Steps
+pub mod RowLaws

@@ -1,0 +1,3 @@
+pub mod Tab
+pub mod Listing
+pub mod Writing

@@ -1,0 +1,74 @@
+// Lent memory: its words, and the stretches of them in which lists of cells lie.
+ghost use denote.Ref.{name};
+ghost use mathlib.Core.Path.{_≡_};
+ghost use Prim.Native.Nat.{ℕ, _+_, _<_, _≤_, _^_};
+ghost use lib.IntN.{ℤ, pos, negℤ};
+ghost use lib.Signed.{_≤ℤ_};
+ghost use lib.ListN.{length, getD, set};
+ghost use Rattle.lent.specs.Mem.{mem, Same};
+ghost use Rattle.lent.specs.Stretches.{toZ, withEntry, roomWords, roomCells};
+
+// The memory that a call is lent.
+#[derive(Drop)]
+pub struct Words<'a> {
+    words: &'a mut [u64],
+}
+
+impl<'a> Words<'a> {
+    pub fn new(lent: &'a mut [u64]) -> Self
+        ensures words { λ r. ⌜ mem r ≡ now (lent .entry) ⌝ }
+        ensures same { λ r. ⌜ name (r .words) ≡ name (lent .entry) ⌝ }
+    {
+        Words { words: lent }
+    }
+
+    pub fn read(&self, i: usize) -> u64
+        requires { ⌜ i < length (mem (now self)) ⌝ }
+        ensures { λ r. ⌜ r ≡ getD (mem (now (self .entry))) i 0 ⌝ }
+    {
+        self.words[i]
+    }
+
+    pub fn write(&mut self, i: usize, value: u64)
+        requires { ⌜ i < length (mem (now self)) ⌝ }
+        ensures after { λ _. ⌜ mem (now (self .exit)) ≡ set (mem (now (self .entry))) i value ⌝ }
+        ensures same { λ _. ⌜ Same (now (self .entry)) (now (self .exit)) ⌝ }
+    {
+        self.words[i] = value;
+    }
+
+    // Writes the cell i of the list that begins at the word `at`.
+    pub fn write_cell(&mut self, at: usize, i: usize, row: u64, column: u64)
+        requires { ⌜ at + roomWords ≤ length (mem (now self)) ⌝ ∗ ⌜ i < roomCells ⌝ }
+        ensures after { λ _. ⌜ mem (now (self .exit)) ≡ withEntry (mem (now (self .entry))) at i row column ⌝ }
+        ensures same { λ _. ⌜ Same (now (self .entry)) (now (self .exit)) ⌝ }
+    {
+        let place = at + 2 * i;
+        self.write(place, row);
+        self.write(place + 1, column);
+    }
+}
+
+// A list of cells in lent memory: the word where it begins, and how many cells it has.
+#[derive(Clone, Copy, PartialEq, Eq, Debug)]
+pub struct Stretch {
+    pub at: usize,
+    pub len: usize,
+}
+
+const BIAS: i64 = 1 << 61;
+
+// The word for a coordinate. A word can't be negative, so it is the number 2^61 larger.
+pub fn to_word(z: i64) -> u64
+    requires { ⌜ negℤ (pos (2 ^ 61)) ≤ℤ z ⌝ ∗ ⌜ z ≤ℤ pos (2 ^ 61) ⌝ }
+    ensures { λ r. ⌜ toZ r ≡ z ⌝ }
+{
+    (z + BIAS) as u64
+}
+
+pub fn to_coordinate(word: u64) -> i64
+    requires { ⌜ word ≤ 2 ^ 62 ⌝ }
+    ensures { λ r. ⌜ r ≡ toZ word ⌝ }
+{
+    word as i64 - BIAS
+}
