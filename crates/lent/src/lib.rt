@@ -5,7 +5,7 @@ ghost use Prim.Native.Nat.{ℕ, _+_, _<_, _≤_, _^_};
 ghost use lib.IntN.{ℤ, pos, negℤ};
 ghost use lib.Signed.{_≤ℤ_};
 ghost use lib.ListN.{length, getD, set};
-ghost use Rattle.lent.specs.Mem.{mem, Same};
+ghost use Rattle.lent.specs.Mem.{mem, seen, Same};
 ghost use Rattle.lent.specs.Stretches.{toZ, withEntry, roomWords, roomCells};
 
 // The memory that a call is lent.
@@ -46,6 +46,27 @@ impl<'a> Words<'a> {
         let place = at + 2 * i;
         self.write(place, row);
         self.write(place + 1, column);
+    }
+}
+
+// The same for a call that only reads.
+#[derive(Clone, Copy)]
+pub struct View<'a> {
+    words: &'a [u64],
+}
+
+impl<'a> View<'a> {
+    pub fn new(lent: &'a [u64]) -> Self
+        ensures { λ r. ⌜ seen r ≡ now (lent .entry) ⌝ }
+    {
+        View { words: lent }
+    }
+
+    pub fn read(self, i: usize) -> u64
+        requires { ⌜ i < length (seen self) ⌝ }
+        ensures { λ r. ⌜ r ≡ getD (seen (self .entry)) i 0 ⌝ }
+    {
+        self.words[i]
     }
 }
 
