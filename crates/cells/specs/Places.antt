@@ -1,17 +1,11 @@
 -- Where a cell stands in an ordered list, or would stand; and lists that are others moved.
 use mathlib.Core.Path.{_≡_}
-use mathlib.Core.Bool.{Bool}
 use mathlib.Core.Logic.{_⊎_}
 use mathlib.Core.List.{List}
-use Prim.Native.Nat.{ℕ, _+_, _<_, _≤_}
-use lib.IntN.{ℤ}
-use Rattle.std.specs.declared.option.Option.{Option}
-use Rattle.std.specs.declared.option.Option.the-variants.{Some, None}
-use Rattle.model.specs.declared.Period.{Period}
+use Prim.Native.Nat.{ℕ, _+_, _-_, _<_, _≤_}
 use Rattle.model.specs.Cells.{Cell, cellAt}
 use Rattle.lent.specs.declared.Stretch.{Stretch}
-use Rattle.lent.specs.Stretches.{toZ, rowAt, colAt}
-use Rattle.cells.specs.declared.Shift.{Shift}
+use Rattle.lent.specs.Stretches.{toZ, entry, rowAt, colAt}
 
 -- the k-th cell comes before the one of that row and column, given as words
 abbrev pub Earlier : List ℕ → Stretch → ℕ → ℕ → ℕ → Type 0
@@ -38,7 +32,15 @@ wordCell row col = cellAt (toZ col) (toZ row)
 abbrev pub longer : Stretch → Stretch
 longer s = record { at = s .at; len = s .len + 1 }
 
--- the period that a shift after t generations is, or `go` where there is none
-abbrev pub shiftPeriod : ℕ → Option Shift → Option Period → Option Period
-shiftPeriod t None go = go
-shiftPeriod t (Some d) go = Some (record { t = t; dx = d .dx; dy = d .dy })
+abbrev pub shorter : Stretch → Stretch
+shorter s = record { at = s .at; len = s .len - 1 }
+
+-- of the n cells at `at`, those from i on stand one higher than before
+pub record Raised (at i n : ℕ) (m m′ : List ℕ) : Type 0 where
+  pub low : (k : ℕ) → k < i → entry m′ at k ≡ entry m at k
+  pub high : (k : ℕ) → i ≤ k → k < n → entry m′ at (k + 1) ≡ entry m at k
+
+-- those after i stand one lower
+pub record Lowered (at i n : ℕ) (m m′ : List ℕ) : Type 0 where
+  pub low : (k : ℕ) → k < i → entry m′ at k ≡ entry m at k
+  pub high : (k : ℕ) → i ≤ k → k + 1 < n → entry m′ at k ≡ entry m at (k + 1)

@@ -5,20 +5,14 @@ ghost use Prim.Native.Nat.{ℕ, _+_, _*_, _<_, _≤_};
 ghost use lib.ListN.{length};
 ghost use Rattle.std.specs.Orderings.{When};
 ghost use Rattle.model.specs.World.{far};
-ghost use Rattle.model.specs.Cells.{lives};
-ghost use Rattle.lent.specs.Mem.{seen};
-ghost use Rattle.lent.specs.Stretches.{Listed, cellsIn, rowAt, colAt, roomCells, roomWords};
-ghost use Rattle.cells.specs.Places.{Earlier, Later, Place, Holds};
+ghost use Rattle.model.specs.Cells.{lives, put};
+ghost use Rattle.lent.specs.Mem.{mem, seen, Same};
+ghost use Rattle.lent.specs.Stretches.{Listed, Beside, cellsIn, entry, withEntry, rowAt, colAt, roomCells, roomWords};
+ghost use Rattle.cells.specs.Places.{Earlier, Later, Place, Holds, Raised, Lowered, wordCell, longer, shorter};
 use lent::Stretch;
 use lent::View;
+use lent::Words;
 use lent::to_word;
-
-// How a list was moved: by dx to the right and dy down.
-#[derive(Clone, Copy, PartialEq, Eq, Debug)]
-pub struct Shift {
-    pub dx: i64,
-    pub dy: i64,
-}
 
 // No cell may lie farther out than this.
 const EDGE: u64 = 1 << 60;
@@ -86,4 +80,68 @@ pub fn lives_at(view: View, s: Stretch, x: i64, y: i64) -> bool
     let row = to_word(y);
     let column = to_word(x);
     holds(view, s, find(view, s, row, column), row, column)
+}
+
+// Writes the cell `from` of the list at `at` over the cell `to`.
+fn copy_cell(words: &mut Words, at: usize, from: usize, to: usize)
+    requires { ⌜ at + roomWords ≤ length (mem (now words)) ⌝ ∗ ⌜ from < roomCells ⌝ ∗ ⌜ to < roomCells ⌝ }
+    ensures after { λ _. ⌜ mem (now (words .exit)) ≡ withEntry (mem (now (words .entry))) at to (rowAt (mem (now (words .entry))) at from) (colAt (mem (now (words .entry))) at from) ⌝ }
+    ensures same { λ _. ⌜ Same (now (words .entry)) (now (words .exit)) ⌝ }
+{
+    let row = words.read(at + 2 * from);
+    let column = words.read(at + 2 * from + 1);
+    words.write_cell(at, to, row, column);
+}
+
+// Moves the cells from i on up by one, so that there is place for one more.
+fn raise(words: &mut Words, s: Stretch, i: usize)
+    requires { ⌜ s .at + roomWords ≤ length (mem (now words)) ⌝ ∗ ⌜ i ≤ s .len ⌝ ∗ ⌜ s .len < roomCells ⌝ }
+    ensures same { λ _. ⌜ Same (now (words .entry)) (now (words .exit)) ⌝ }
+    ensures beside { λ _. ⌜ Beside (s .at) (mem (now (words .entry))) (mem (now (words .exit))) ⌝ }
+    ensures raised { λ _. ⌜ Raised (s .at) i (s .len) (mem (now (words .entry))) (mem (now (words .exit))) ⌝ }
+{
+    let mut k = s.len;
+    while k > i {
+        copy_cell(words, s.at, k - 1, k);
+        k -= 1;
+    }
+}
+
+// Moves the cells after i down by one, over the cell i.
+fn lower(words: &mut Words, s: Stretch, i: usize)
+    requires { ⌜ s .at + roomWords ≤ length (mem (now words)) ⌝ ∗ ⌜ i < s .len ⌝ ∗ ⌜ s .len ≤ roomCells ⌝ }
+    ensures same { λ _. ⌜ Same (now (words .entry)) (now (words .exit)) ⌝ }
+    ensures beside { λ _. ⌜ Beside (s .at) (mem (now (words .entry))) (mem (now (words .exit))) ⌝ }
+    ensures lowered { λ _. ⌜ Lowered (s .at) i (s .len) (mem (now (words .entry))) (mem (now (words .exit))) ⌝ }
+{
+    let mut k = i + 1;
+    while k < s.len {
+        copy_cell(words, s.at, k, k - 1);
+        k += 1;
+    }
+}
+
+// Puts a cell that isn't in the list at its place, i.
+pub fn insert(words: &mut Words, s: Stretch, i: usize, row: u64, column: u64)
+    requires listed { ⌜ Listed (mem (now words)) s ⌝ }
+    requires room { ⌜ s .len < roomCells ⌝ }
+    requires place { ⌜ Place (mem (now words)) s row column i ⌝ }
+    requires absent { ⌜ (Holds (mem (now words)) s i row column → ⊥) ⌝ }
+    ensures same { λ _. ⌜ Same (now (words .entry)) (now (words .exit)) ⌝ }
+    ensures beside { λ _. ⌜ Beside (s .at) (mem (now (words .entry))) (mem (now (words .exit))) ⌝ }
+    ensures cells { λ _. ⌜ cellsIn (mem (now (words .exit))) (longer s) ≡ put (wordCell row column) true (cellsIn (mem (now (words .entry))) s) ⌝ }
+{
+    raise(words, s, i);
+    words.write_cell(s.at, i, row, column);
+}
+
+// Erases the cell i of the list.
+pub fn remove(words: &mut Words, s: Stretch, i: usize)
+    requires listed { ⌜ Listed (mem (now words)) s ⌝ }
+    requires within { ⌜ i < s .len ⌝ }
+    ensures same { λ _. ⌜ Same (now (words .entry)) (now (words .exit)) ⌝ }
+    ensures beside { λ _. ⌜ Beside (s .at) (mem (now (words .entry))) (mem (now (words .exit))) ⌝ }
+    ensures cells { λ _. ⌜ cellsIn (mem (now (words .exit))) (shorter s) ≡ put (entry (mem (now (words .entry))) (s .at) i) false (cellsIn (mem (now (words .entry))) s) ⌝ }
+{
+    lower(words, s, i);
 }
