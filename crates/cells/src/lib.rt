@@ -1,10 +1,11 @@
 // Ordered lists of cells in stretches of lent words: to find a cell, to put or erase one, to compare and to measure lists.
 ghost use mathlib.Core.Path.{_≡_};
-ghost use mathlib.Core.Bool.{true, false};
+ghost use mathlib.Core.Bool.{true, false, cond};
 ghost use Prim.Native.Nat.{ℕ, _+_, _*_, _<_, _≤_};
 ghost use lib.ListN.{length};
 ghost use Rattle.std.specs.Orderings.{When};
-ghost use Rattle.model.specs.World.{far};
+ghost use lib.IntN.{pos, _+ℤ_};
+ghost use Rattle.model.specs.World.{far, bits};
 ghost use Rattle.model.specs.Cells.{lives, put};
 ghost use Rattle.lent.specs.Mem.{mem, seen, Same};
 ghost use Rattle.lent.specs.Stretches.{Listed, Beside, cellsIn, entry, withEntry, rowAt, colAt, roomCells, roomWords};
@@ -144,4 +145,26 @@ pub fn remove(words: &mut Words, s: Stretch, i: usize)
     ensures cells { λ _. ⌜ cellsIn (mem (now (words .exit))) (shorter s) ≡ put (entry (mem (now (words .entry))) (s .at) i) false (cellsIn (mem (now (words .entry))) s) ⌝ }
 {
     lower(words, s, i);
+}
+
+// The cell i places to the right of x, y, as 0 or 1.
+fn cell_byte(view: View, s: Stretch, x: i64, y: i64, i: usize) -> u8
+    requires { ⌜ Listed (seen view) s ⌝ }
+    ensures { λ r. ⌜ r ≡ cond (lives (x +ℤ pos i) y (cellsIn (seen (view .entry)) s)) 1 0 ⌝ }
+{
+    let column = i128::from(x) + i as i128;
+    if column > i128::from(i64::MAX) {
+        return 0;
+    }
+    u8::from(lives_at(view, s, column as i64, y))
+}
+
+// The cells of a row from x, y to the right, as 0 and 1, as many as there is place for.
+pub fn row(view: View, s: Stretch, x: i64, y: i64, out: &mut [u8])
+    requires { ⌜ Listed (seen view) s ⌝ }
+    ensures { λ _. ⌜ now (out .exit) ≡ bits x y (length (now (out .entry))) (cellsIn (seen (view .entry)) s) ⌝ }
+{
+    for i in 0..out.len() {
+        out[i] = cell_byte(view, s, x, y, i);
+    }
 }
