@@ -1,4 +1,4 @@
-// Ordered lists of cells in stretches of lent words: to find a cell, to put or erase one, to compare and to measure lists.
+// Ordered lists of cells in stretches of lent words: to find a cell, to put or erase one, to read a row.
 ghost use mathlib.Core.Path.{_≡_};
 ghost use mathlib.Core.Bool.{true, false, cond};
 ghost use Prim.Native.Nat.{ℕ, _+_, _*_, _<_, _≤_};

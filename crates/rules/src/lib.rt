@@ -16,6 +16,7 @@ pub struct Rule {
 }
 
 impl Rule {
+    // Sets of numbers from 0 to 8, in which 0 does not give birth: nothing comes of nothing.
     pub fn new(born: u16, stays: u16) -> Result<Rule, Refusal>
         ensures { λ r. ⌜ r ≡ ruled born stays ⌝ }
     {
@@ -58,7 +59,7 @@ impl Rule {
 }
 
 // The sets that a text names. They need not make a rule: birth from nothing is none.
-#[derive(Clone, Copy, PartialEq, Eq, Debug)]
+#[derive(Clone, Copy)]
 pub struct RuleSets {
     pub born: u16,
     pub stays: u16,

@@ -1,8 +1,5 @@
 use mathlib.Core.Path.{_≡_, _∙_, sym}
-use Prim.Native.Nat.{_≤_}
 use native.Mathlib.Omega.{arith}
-use lib.ListN.{length}
-use Rattle.std.specs.declared.option.Option.{Option}
 use Rattle.std.specs.declared.option.Option.the-variants.{Some, None}
 use Rattle.rules.specs.Texts.{setsOf}
 use Rattle.rules.proofs.Reading.{begins-within, no-b, no-s, to-end, ended-past, ended-within, sets-right}

@@ -1,0 +1,5 @@
+use Rattle.lines.proofs.Promise.{words-right, numbers-right, examples, refusals}
+use Rattle.lines.proofs.reading_stands.Needs as need
+
+pub returns : need.returns
+returns c = (words-right, numbers-right, examples, refusals)

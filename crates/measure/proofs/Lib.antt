@@ -1,0 +1,4 @@
+pub mod Compare
+pub mod Moving
+pub mod Outness
+pub mod Boxes
