@@ -10,7 +10,7 @@ abbrev pub mem : Words → List ℕ
 mem w = now (w .words)
 
 abbrev pub seen : View → List ℕ
-seen v = now (v .words)
+seen v = now (v .lent)
 
 -- still the words of the same lender
 abbrev pub Same : Words → Words → Type 0

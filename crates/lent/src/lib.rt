@@ -29,12 +29,12 @@ impl<'a> Words<'a> {
         self.words[i]
     }
 
-    pub fn write(&mut self, i: usize, value: u64)
-        requires { ⌜ i < length (mem (now self)) ⌝ }
-        ensures after { λ _. ⌜ mem (now (self .exit)) ≡ set (mem (now (self .entry))) i value ⌝ }
+    pub fn write(&mut self, at: usize, value: u64)
+        requires { ⌜ at < length (mem (now self)) ⌝ }
+        ensures after { λ _. ⌜ mem (now (self .exit)) ≡ set (mem (now (self .entry))) at value ⌝ }
         ensures same { λ _. ⌜ Same (now (self .entry)) (now (self .exit)) ⌝ }
     {
-        self.words[i] = value;
+        self.words[at] = value;
     }
 
     // Writes the cell i of the list that begins at the word `at`.
@@ -52,21 +52,21 @@ impl<'a> Words<'a> {
 // The same for a call that only reads.
 #[derive(Clone, Copy)]
 pub struct View<'a> {
-    words: &'a [u64],
+    lent: &'a [u64],
 }
 
 impl<'a> View<'a> {
     pub fn new(lent: &'a [u64]) -> Self
         ensures { λ r. ⌜ seen r ≡ now (lent .entry) ⌝ }
     {
-        View { words: lent }
+        View { lent }
     }
 
     pub fn read(self, i: usize) -> u64
         requires { ⌜ i < length (seen self) ⌝ }
         ensures { λ r. ⌜ r ≡ getD (seen (self .entry)) i 0 ⌝ }
     {
-        self.words[i]
+        self.lent[i]
     }
 }
 
