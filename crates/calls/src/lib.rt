@@ -17,7 +17,9 @@ use model::Refusal;
 // of the memory; `good` says that the memory holds them.
 pub trait Field {
     ghost world: { Self → List ℕ → World };
+
     ghost good: { Self → List ℕ → Type 0 };
+
     ghost sound: { (f : Self) (m : List ℕ) → good f m → T (goodRule (world f m .rule)) × T (inOrder (world f m .cells)) };
 
     // Whether memory of so many words can be opened.

@@ -44,8 +44,8 @@ pub lives-far : (m : List ℕ) (s : Stretch) (x y : ℤ) → Listed m s → T (f
 lives-far m s x y h t =
     bool-same _ _ (λ z. absurd z)
     (λ l.
-        let f = far-out (cellsIn m s) x y l in let f0 = f .0 in let f1 = f .1 in let n = h .near in
-        elim (far-size x y t) [ inl p ↦ absurd (omega arith) | inr p ↦ absurd (omega arith) ])
+    let f = far-out (cellsIn m s) x y l in let f0 = f .0 in let f1 = f .1 in let n = h .near in
+    elim (far-size x y t) [ inl p ↦ absurd (omega arith) | inr p ↦ absurd (omega arith) ])
 
 -- where a cell that stands in the list is found
 pub place-holds : (m : List ℕ) (s : Stretch) (row col i k : ℕ) → Listed m s → Place m s row col i → k < s .len → rowAt m (s .at) k ≡ row → colAt m (s .at) k ≡ col → i ≡ k
@@ -55,8 +55,8 @@ place-holds m s row col i k h p b er ec = go (decLt k i) (decLt i k)
     go (yes l) d = elim (p .early k l) [ inl e ↦ absurd (omega arith) | inr e ↦ let e1 = e .1 in absurd (omega arith) ]
     go (no l) (yes d) =
         elim (p .late i (omega arith) (omega arith)) [
-            inl e ↦ elim (listed-order m s h i k d b) [ inl o ↦ absurd (omega arith) | inr o ↦ let o0 = o .0 in absurd (omega arith) ]
-            | inr e ↦ let e0 = e .0 in let e1 = e .1 in elim (listed-order m s h i k d b) [ inl o ↦ absurd (omega arith) | inr o ↦ let o1 = o .1 in absurd (omega arith) ]
+          | inl e ↦ elim (listed-order m s h i k d b) [ inl o ↦ absurd (omega arith) | inr o ↦ let o0 = o .0 in absurd (omega arith) ]
+          | inr e ↦ let e0 = e .0 in let e1 = e .1 in elim (listed-order m s h i k d b) [ inl o ↦ absurd (omega arith) | inr o ↦ let o1 = o .1 in absurd (omega arith) ]
         ]
     go (no l) (no d) = omega arith
 
@@ -69,6 +69,6 @@ place-lives m s row col i x y true h p ex ey (b, er, ec) =
 place-lives m s row col i x y false h p ex ey n =
     bool-same _ _ (λ z. absurd z)
     (λ l.
-        let k = listed-find m s x y l in let ec = toZ-inj _ _ (k .column ∙ sym ex) in let er = toZ-inj _ _ (k .row ∙ sym ey) in
-        let e = place-holds m s row col i (k .index) h p (k .high) er ec in
-        n (subst (λ (u : ℕ). Holds m s u row col) (sym e) (k .high, er, ec)))
+    let k = listed-find m s x y l in let ec = toZ-inj _ _ (k .column ∙ sym ex) in let er = toZ-inj _ _ (k .row ∙ sym ey) in
+    let e = place-holds m s row col i (k .index) h p (k .high) er ec in
+    n (subst (λ (u : ℕ). Holds m s u row col) (sym e) (k .high, er, ec)))

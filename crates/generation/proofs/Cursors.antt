@@ -33,11 +33,11 @@ pub record Left (m : List ℕ) (s : Stretch) (x : ℕ) (c : Cursor) : Type 0 whe
 pub head-says : (m : List ℕ) (s : Stretch) (x : ℕ) (c : Cursor) → Listed m s → CursorAt m s x c → ((c .at ≡ c .end) × (c .head ≡ 2 ^ 64 - 1)) ⊎ Left m s x c
 head-says m s x c h a =
     elim (decLt (c .at) (c .end)) [
-        yes l ↦
-            let e = a .head ∙ head-on m s (c .at) (c .end) l in let t = a .high in let g = a .here (c .at) (omega arith) l in
-            let n = listed-near m s h (c .at) (omega arith) in let n1 = n .1 .0 in let n2 = n .1 .1 in let g0 = g .0 in let g1 = g .1 in
-            inr (record { some = l; column = sym e; row = g0; from = omega arith; low = omega arith; high = omega arith })
-        | no l ↦ let t = a .low in inl (omega arith, a .head ∙ head-end m s (c .at) (c .end) (omega arith))
+      | yes l ↦
+          let e = a .head ∙ head-on m s (c .at) (c .end) l in let t = a .high in let g = a .here (c .at) (omega arith) l in
+          let n = listed-near m s h (c .at) (omega arith) in let n1 = n .1 .0 in let n2 = n .1 .1 in let g0 = g .0 in let g1 = g .1 in
+          inr (record { some = l; column = sym e; row = g0; from = omega arith; low = omega arith; high = omega arith })
+      | no l ↦ let t = a .low in inl (omega arith, a .head ∙ head-end m s (c .at) (c .end) (omega arith))
     ]
 
 -- the only cell of a row that can lie in the cursor's column is the one where it stands
@@ -50,9 +50,11 @@ at-cursor m s x c h a k b e f =
     not-past : Dec (k < c .at) → c .at ≤ k
     not-past (yes l) = elim (a .past k l) [ inl p ↦ absurd (omega arith) | inr p ↦ let p1 = p .1 in absurd (omega arith) ]
     not-past (no l) = omega arith
+
     not-under : Dec (k < c .end) → k < c .end
     not-under (yes l) = l
     not-under (no l) = let u = a .under k (omega arith) b in absurd (omega arith)
+
     first : c .at ≤ k → k < c .end → Dec (c .at < k) → colAt m (s .at) (c .at) ≤ colAt m (s .at) k
     first p q (yes l) =
         let g = a .here (c .at) (omega arith) (omega arith) .0 in
@@ -67,30 +69,34 @@ cursor-lives m s x c h a b = bool-same _ _ there back
         let k = listed-find m s _ _ t in let ex = toZ-inj _ _ (k .column) in let ey = toZ-inj _ _ (k .row) in
         let p = at-cursor m s x c h a (k .index) (k .high) ey (omega arith) in let p1 = p .1 in
         elim (head-says m s x c h a) [
-            inl g ↦ let g0 = g .0 in let p0 = p .0 in absurd (omega arith)
-            | inr g ↦ let e : c .head ≡ x = let g1 = g .column in let g2 = g .from in omega arith in grind arith
+          | inl g ↦ let g0 = g .0 in let p0 = p .0 in absurd (omega arith)
+          | inr g ↦ let e : c .head ≡ x = let g1 = g .column in let g2 = g .from in omega arith in grind arith
         ]
+
     back : T (eqb (c .head) x) → T (lives (toZ x) (toZ (c .row)) (cellsIn m s))
     back t =
         let e : c .head ≡ x = grind arith in
         elim (head-says m s x c h a) [
-            inl g ↦ let g1 = g .1 in absurd (omega arith)
-            | inr g ↦
-                let t0 = a .high in let g0 = g .some in
-                subst (λ (u : ℕ). T (lives (toZ u) (toZ (c .row)) (cellsIn m s))) (g .column ∙ e)
-                (subst (λ (u : ℕ). T (lives (toZ (colAt m (s .at) (c .at))) (toZ u) (cellsIn m s))) (g .row) (listed-lives m s (c .at) (omega arith)))
+          | inl g ↦ let g1 = g .1 in absurd (omega arith)
+          | inr g ↦
+              let t0 = a .high in let g0 = g .some in
+              subst (λ (u : ℕ). T (lives (toZ u) (toZ (c .row)) (cellsIn m s))) (g .column ∙ e)
+              (subst (λ (u : ℕ). T (lives (toZ (colAt m (s .at) (c .at))) (toZ u) (cellsIn m s))) (g .row) (listed-lives m s (c .at) (omega arith)))
         ]
 
 -- a cursor serves a later column too, up to its head
 pub cursor-skip : (m : List ℕ) (s : Stretch) (x x′ : ℕ) (c : Cursor) → Listed m s → CursorAt m s x c → x ≤ x′ → x′ ≤ c .head → CursorAt m s x′ c
 cursor-skip m s x x′ c h a l g =
     record {
-        low = a .low; high = a .high; under = a .under; head = a .head;
-        past = λ k b. elim (a .past k b) [ inl p ↦ inl p | inr p ↦ let p1 = p .1 in inr (p .0, omega arith) ];
-        here = λ k b d.
-            let q = a .here k b d in let t = a .high in
-            let f = at-cursor m s x c h a k (omega arith) (q .0) (q .1) in let f0 = f .0 in let f1 = f .1 in
-            let e = head-on m s (c .at) (c .end) f0 in let ah = a .head in (q .0, omega arith)
+      low = a .low;
+      high = a .high;
+      under = a .under;
+      head = a .head;
+      past = λ k b. elim (a .past k b) [ inl p ↦ inl p | inr p ↦ let p1 = p .1 in inr (p .0, omega arith) ];
+      here = λ k b d.
+          let q = a .here k b d in let t = a .high in
+          let f = at-cursor m s x c h a k (omega arith) (q .0) (q .1) in let f0 = f .0 in let f1 = f .1 in
+          let e = head-on m s (c .at) (c .end) f0 in let ah = a .head in (q .0, omega arith);
     }
 
 -- past the cell in its column
@@ -98,17 +104,18 @@ pub cursor-step : (m : List ℕ) (s : Stretch) (x : ℕ) (c c′ : Cursor) → L
     c′ .head ≡ headOf m s (c′ .at) (c′ .end) → CursorAt m s (x + 1) c′
 cursor-step m s x c c′ h a e b er ea ee eh =
     elim (head-says m s x c h a) [
-        inl g ↦ let g1 = g .1 in absurd (omega arith)
-        | inr g ↦ let g0 = g .some in let t = a .high in
-            record {
-                low = omega arith; high = omega arith;
-                past = λ k l. passed g k (decLt k (c .at)) l;
-                here = λ k l u.
-                    let q = a .here k (omega arith) (omega arith) in let q0 = q .0 in let gr = g .row in let gc = g .column in
-                    elim (listed-order m s h (c .at) k (omega arith) (omega arith)) [ inl o ↦ absurd (omega arith) | inr o ↦ let o1 = o .1 in (omega arith, omega arith) ];
-                under = λ k l u. let q = a .under k (omega arith) u in omega arith;
-                head = eh
-            }
+      | inl g ↦ let g1 = g .1 in absurd (omega arith)
+      | inr g ↦ let g0 = g .some in let t = a .high in
+          record {
+            low = omega arith;
+            high = omega arith;
+            past = λ k l. passed g k (decLt k (c .at)) l;
+            here = λ k l u.
+                let q = a .here k (omega arith) (omega arith) in let q0 = q .0 in let gr = g .row in let gc = g .column in
+                elim (listed-order m s h (c .at) k (omega arith) (omega arith)) [ inl o ↦ absurd (omega arith) | inr o ↦ let o1 = o .1 in (omega arith, omega arith) ];
+            under = λ k l u. let q = a .under k (omega arith) u in omega arith;
+            head = eh;
+          }
     ]
   where
     passed : Left m s x c → (k : ℕ) → Dec (k < c .at) → k < c′ .at → (rowAt m (s .at) k < c′ .row) ⊎ ((rowAt m (s .at) k ≡ c′ .row) × (colAt m (s .at) k < x + 1))
@@ -128,6 +135,6 @@ cursor-miss m s x c h a b e = let t : eqb (c .head) x ≡ false = grind arith in
 pub cursor-pass : (m : List ℕ) (s : Stretch) (x : ℕ) (c : Cursor) → Listed m s → CursorAt m s x c → x < 2 ^ 63 → (c .head ≡ x → ⊥) → CursorAt m s (x + 1) c
 cursor-pass m s x c h a b e =
     elim (head-says m s x c h a) [
-        inl g ↦ let g1 = g .1 in cursor-skip m s x (x + 1) c h a (omega arith) (omega arith)
-        | inr g ↦ let g1 = g .from in cursor-skip m s x (x + 1) c h a (omega arith) (omega arith)
+      | inl g ↦ let g1 = g .1 in cursor-skip m s x (x + 1) c h a (omega arith) (omega arith)
+      | inr g ↦ let g1 = g .from in cursor-skip m s x (x + 1) c h a (omega arith) (omega arith)
     ]

@@ -45,18 +45,18 @@ pub done-skip : (q : Plane Bool) (out : List Cell) (c c′ : Cell) → Done q ou
     ((x y : ℤ) → T (before (cellAt x y) c′) → T (q x y) → T (before (cellAt x y) c)) → Done q out c′
 done-skip q out c c′ d up none =
     record {
-        ordered = d .ordered;
-        each = λ x y. bool-same _ _
-            (λ t. let p = done-past q out c d x y t in and-in _ _ (up x y (p .0)) (p .1))
-            (λ t. let b = and-l (before (cellAt x y) c′) (q x y) t in let l = and-r (before (cellAt x y) c′) (q x y) t in done-has q out c d x y (none x y b l) l)
+      ordered = d .ordered;
+      each = λ x y. bool-same _ _
+          (λ t. let p = done-past q out c d x y t in and-in _ _ (up x y (p .0)) (p .1))
+          (λ t. let b = and-l (before (cellAt x y) c′) (q x y) t in let l = and-r (before (cellAt x y) c′) (q x y) t in done-has q out c d x y (none x y b l) l);
     }
 
 -- the cell to the right comes next
 step-out : (c : Cell) (x y : ℤ) → T (before (cellAt x y) (cellAt (ahead (c .x)) (c .y))) → T (before (cellAt x y) c) ⊎ (cellAt x y ≡ c)
 step-out c x y t =
     elim (before-tri (cellAt x y) c) [
-        inl b ↦ inl b
-        | inr r ↦ elim r [ inl e ↦ inr e | inr b ↦ absurd (gap c x y t b) ]
+      | inl b ↦ inl b
+      | inr r ↦ elim r [ inl e ↦ inr e | inr b ↦ absurd (gap c x y t b) ]
     ]
   where
     gap : (c : Cell) (x y : ℤ) → T (before (cellAt x y) (cellAt (ahead (c .x)) (c .y))) → T (before c (cellAt x y)) → ⊥
@@ -84,22 +84,25 @@ done-emit q out c d e =
     last : (x y u v : ℤ) → T (lives x y out) → (cellAt u v ≡ c) ⊎ T (lives u v []) → T (before (cellAt x y) (cellAt u v))
     last x y u v s (inl p) = subst (λ (k : Cell). T (before (cellAt x y) k)) (sym p) (done-past q out c d x y s .0)
     last x y u v s (inr p) = absurd (lives-none u v p)
+
     this : (x y : ℤ) → cellAt x y ≡ c → T (before (cellAt x y) (cellAt (ahead (c .x)) (c .y)) && q x y)
     this x y p =
         subst (λ (k : Cell). T (before k (cellAt (ahead (c .x)) (c .y)) && q (k .x) (k .y))) (sym p)
         (and-in _ _ (step-own c) (subst T (sym e) tt))
+
     there : (x y : ℤ) → T (lives x y (out ++ (c ∷ []))) → T (before (cellAt x y) (cellAt (ahead (c .x)) (c .y)) && q x y)
     there x y t =
         elim (lives-++ x y out (c ∷ []) t) [
-            inl s ↦ let p = done-past q out c d x y s in and-in _ _ (step-in c x y (p .0)) (p .1)
-            | inr s ↦ elim (lives-out x y c [] s) [ inl p ↦ this x y p | inr p ↦ absurd (lives-none x y p) ]
+          | inl s ↦ let p = done-past q out c d x y s in and-in _ _ (step-in c x y (p .0)) (p .1)
+          | inr s ↦ elim (lives-out x y c [] s) [ inl p ↦ this x y p | inr p ↦ absurd (lives-none x y p) ]
         ]
+
     back-in : (x y : ℤ) → T (before (cellAt x y) (cellAt (ahead (c .x)) (c .y)) && q x y) → T (lives x y (out ++ (c ∷ [])))
     back-in x y t =
         let b = and-l (before (cellAt x y) (cellAt (ahead (c .x)) (c .y))) (q x y) t in let l = and-r (before (cellAt x y) (cellAt (ahead (c .x)) (c .y))) (q x y) t in
         elim (step-out c x y b) [
-            inl p ↦ lives-++l x y out (c ∷ []) (done-has q out c d x y p l)
-            | inr p ↦ lives-++r x y out (c ∷ []) (subst (λ (k : Cell). T (lives (k .x) (k .y) (c ∷ []))) (sym p) (lives-head c []))
+          | inl p ↦ lives-++l x y out (c ∷ []) (done-has q out c d x y p l)
+          | inr p ↦ lives-++r x y out (c ∷ []) (subst (λ (k : Cell). T (lives (k .x) (k .y) (c ∷ []))) (sym p) (lives-head c []))
         ]
 
 -- an ordered list whose cells all live in another is no longer than that
@@ -108,25 +111,27 @@ order-length [] ds p q h = omega arith
 order-length (c ∷ cs) [] p q h = absurd (lives-none (c .x) (c .y) (h (c .x) (c .y) (lives-head c cs)))
 order-length (c ∷ cs) (d ∷ ds) p q h =
     elim (lives-out (c .x) (c .y) d ds (h (c .x) (c .y) (lives-head c cs))) [
-        inl e ↦
-            let r = order-length cs ds (order-tail c cs p) (order-tail d ds q)
-                (λ x y t. elim (lives-out x y d ds (h x y (lives-tail x y c cs t))) [
-                    inl f ↦ absurd (before-irrefl c (subst (λ (k : Cell). T (before c k)) (f ∙ sym e) (order-after c cs x y p t)))
-                    | inr f ↦ f ]) in
-            omega arith
-        | inr l ↦
-            let r = order-length (c ∷ cs) ds p (order-tail d ds q)
-                (λ x y t. elim (lives-out x y d ds (h x y t)) [
-                    inl f ↦ absurd (late x y t f (order-after d ds (c .x) (c .y) q l))
-                    | inr f ↦ f ]) in
-            omega arith
+      | inl e ↦
+          let r = order-length cs ds (order-tail c cs p) (order-tail d ds q)
+          (λ x y t. elim (lives-out x y d ds (h x y (lives-tail x y c cs t))) [
+            | inl f ↦ absurd (before-irrefl c (subst (λ (k : Cell). T (before c k)) (f ∙ sym e) (order-after c cs x y p t)))
+            | inr f ↦ f
+          ]) in
+          omega arith
+      | inr l ↦
+          let r = order-length (c ∷ cs) ds p (order-tail d ds q)
+          (λ x y t. elim (lives-out x y d ds (h x y t)) [
+            | inl f ↦ absurd (late x y t f (order-after d ds (c .x) (c .y) q l))
+            | inr f ↦ f
+          ]) in
+          omega arith
     ]
   where
     late : (x y : ℤ) → T (lives x y (c ∷ cs)) → cellAt x y ≡ d → T (before d c) → ⊥
     late x y t f b =
         elim (lives-out x y c cs t) [
-            inl g ↦ before-irrefl c (subst (λ (k : Cell). T (before k c)) (sym f ∙ g) b)
-            | inr g ↦ before-irrefl d (before-trans d c d b (subst (λ (k : Cell). T (before c k)) f (order-after c cs x y p g)))
+          | inl g ↦ before-irrefl c (subst (λ (k : Cell). T (before k c)) (sym f ∙ g) b)
+          | inr g ↦ before-irrefl d (before-trans d c d b (subst (λ (k : Cell). T (before c k)) f (order-after c cs x y p g)))
         ]
 
 -- all rows are done

@@ -56,26 +56,35 @@ pub rows-jump : (m : List ℕ) (s : Stretch) (q : Rows) (row e : ℕ) → Listed
 rows-jump m s q row e h g l n er re =
     let ab = g .ab in let bc = g .bc in let cd = g .cd in let dn = g .dn in let elow = re .low in let ehigh = re .high in
     let below = g .left (q .d) (omega arith) (omega arith) in let near = listed-near m s h (q .d) (omega arith) .0 in let n0 = near .0 in let n1 = near .1 in
-    let past : q .d < e = more (decLt (q .d) e) elow in
-    ( record {
-        ab = ab; bc = bc; cd = omega arith; dn = ehigh;
+    let past : q .d < e = more (decLt (q .d) e) elow in (
+      record {
+        ab = ab;
+        bc = bc;
+        cd = omega arith;
+        dn = ehigh;
         gone = λ k b. let p = g .gone k b in omega arith;
         upper = λ k a b. absurd (omega arith);
         same = λ k a b. absurd (omega arith);
         lower = λ k a b. let p = re .inside k (omega arith) b in omega arith;
         left = λ k a b. let p = rows-after m s h (q .d) row e re (λ j u v. let t = rows-rise m s h (q .d) j u v in omega arith) k a b in omega arith;
-        bound = omega arith },
-      omega arith, omega arith, omega arith,
-      inr (λ k b lo hi. none k b lo hi (decLt k (q .d))) )
+        bound = omega arith;
+      },
+      omega arith,
+      omega arith,
+      omega arith,
+      inr (λ k b lo hi. none k b lo hi (decLt k (q .d))),
+    )
   where
     short : Dec (e < s .len) → e ≡ q .d → e < s .len
     short (yes p) z = p
     short (no p) z = let dn = g .dn in absurd (n (omega arith))
+
     more : Dec (q .d < e) → q .d ≤ e → q .d < e
     more (yes p) r = p
     more (no p) r =
         let z : e ≡ q .d = omega arith in let y = ap (λ (i : ℕ). rowAt m (s .at) i) z in
         absurd (re .ends (short (decLt e (s .len)) z) (omega arith))
+
     none : (k : ℕ) → k < s .len → q .top ≤ rowAt m (s .at) k → rowAt m (s .at) k < row - 2 + 2 → Dec (k < q .d) → ⊥
     none k b lo hi (yes p) = let o = g .gone k (omega arith) in omega arith
     none k b lo hi (no p) = let o = rows-rise m s h (q .d) k (omega arith) b in let near = listed-near m s h (q .d) (omega arith) .0 .0 in omega arith
@@ -100,16 +109,21 @@ rows-bound m s q h g l = let dn = g .dn in let n = listed-near m s h (q .a) (ome
 
 pub rows-slide : (m : List ℕ) (s : Stretch) (q : Rows) (e : ℕ) → Listed m s → RowsAt m s q → q .a < q .d → RowEnd m s (q .d) (q .top + 3) e → RowsAt m s (lowered q e) × (rowsLeft s (lowered q e) < rowsLeft s q)
 rows-slide m s q e h g l re =
-    let ab = g .ab in let bc = g .bc in let cd = g .cd in let dn = g .dn in let elow = re .low in let ehigh = re .high in let bd = rows-bound m s q h g l in
-    ( record {
-        ab = bc; bc = cd; cd = elow; dn = ehigh;
+    let ab = g .ab in let bc = g .bc in let cd = g .cd in let dn = g .dn in let elow = re .low in let ehigh = re .high in let bd = rows-bound m s q h g l in (
+      record {
+        ab = bc;
+        bc = cd;
+        cd = elow;
+        dn = ehigh;
         gone = λ k b. first k b (decLt k (q .a));
         upper = λ k a b. g .same k a b;
         same = λ k a b. let p = g .lower k a b in omega arith;
         lower = λ k a b. let p = re .inside k a b in omega arith;
         left = λ k a b. let p = rows-after m s h (q .d) (q .top + 3) e re (λ j u v. let t = g .left j u v in omega arith) k a b in omega arith;
-        bound = omega arith },
-      omega arith )
+        bound = omega arith;
+      },
+      omega arith,
+    )
   where
     first : (k : ℕ) → k < q .b → Dec (k < q .a) → rowAt m (s .at) k < q .top + 1
     first k b (yes p) = let o = g .gone k p in omega arith
@@ -119,12 +133,16 @@ pub rows-moves : {to : ℕ} {m m′ : List ℕ} → Beside to m m′ → (s : St
 rows-moves h s a l q g =
     let ab = g .ab in let bc = g .bc in let cd = g .cd in let dn = g .dn in
     record {
-        ab = ab; bc = bc; cd = cd; dn = dn; bound = g .bound;
-        gone = λ k b. let e = beside-entry h (s .at) a k (omega arith) .0 in let p = g .gone k b in omega arith;
-        upper = λ k b d. let e = beside-entry h (s .at) a k (omega arith) .0 in let p = g .upper k b d in omega arith;
-        same = λ k b d. let e = beside-entry h (s .at) a k (omega arith) .0 in let p = g .same k b d in omega arith;
-        lower = λ k b d. let e = beside-entry h (s .at) a k (omega arith) .0 in let p = g .lower k b d in omega arith;
-        left = λ k b d. let e = beside-entry h (s .at) a k (omega arith) .0 in let p = g .left k b d in omega arith
+      ab = ab;
+      bc = bc;
+      cd = cd;
+      dn = dn;
+      bound = g .bound;
+      gone = λ k b. let e = beside-entry h (s .at) a k (omega arith) .0 in let p = g .gone k b in omega arith;
+      upper = λ k b d. let e = beside-entry h (s .at) a k (omega arith) .0 in let p = g .upper k b d in omega arith;
+      same = λ k b d. let e = beside-entry h (s .at) a k (omega arith) .0 in let p = g .same k b d in omega arith;
+      lower = λ k b d. let e = beside-entry h (s .at) a k (omega arith) .0 in let p = g .lower k b d in omega arith;
+      left = λ k b d. let e = beside-entry h (s .at) a k (omega arith) .0 in let p = g .left k b d in omega arith;
     }
 
 abbrev pub newCursor : List ℕ → Stretch → ℕ → ℕ → ℕ → Cursor
@@ -139,35 +157,51 @@ window-start m s q a h b li g ea eh eb =
     let ra = ap (λ (c : Cursor). c .row) ea in let rh = ap (λ (c : Cursor). c .row) eh in let rb = ap (λ (c : Cursor). c .row) eb in
     let bare : Bare m s (a .row) 0 2 = λ k u lo hi l r. let n = listed-near m s li k u .1 .0 in omega arith in
     record {
-        upper = subst (λ (c : Cursor). CursorAt m s 2 c) (sym ea) (record {
-            low = ab; high = omega arith; past = λ k u. inl (g .gone k u);
-            here = λ k u v. let n = listed-near m s li k (omega arith) .1 .0 in (g .upper k u v, omega arith);
-            under = λ k u v. lower-a k u v (decLt k (q .c)) (decLt k (q .d)); head = refl });
-        same = subst (λ (c : Cursor). CursorAt m s 2 c) (sym eh) (record {
-            low = bc; high = omega arith; past = λ k u. inl (past-b k u (decLt k (q .a)));
-            here = λ k u v. let n = listed-near m s li k (omega arith) .1 .0 in (g .same k u v, omega arith);
-            under = λ k u v. lower-b k u v (decLt k (q .d)); head = refl });
-        lower = subst (λ (c : Cursor). CursorAt m s 2 c) (sym eb) (record {
-            low = cd; high = dn; past = λ k u. inl (past-c k u (decLt k (q .a)) (decLt k (q .b)));
-            here = λ k u v. let n = listed-near m s li k (omega arith) .1 .0 in (g .lower k u v, omega arith);
-            under = λ k u v. g .left k u v; head = refl });
-        second = omega arith; third = omega arith;
-        first-column = sym (bare-column m s (a .row) 0 2 bare 0 (h .row) (omega arith) (omega arith) (omega arith));
-        next-column = sym (bare-column m s (a .row) 0 2 bare 1 (h .row) (omega arith) (omega arith) (omega arith));
-        centre = sym (bare-lives m s (a .row) 0 2 bare 1 (h .row) (omega arith) (omega arith) (omega arith) (omega arith));
-        bound = omega arith
+      upper = subst (λ (c : Cursor). CursorAt m s 2 c) (sym ea) (record {
+        low = ab;
+        high = omega arith;
+        past = λ k u. inl (g .gone k u);
+        here = λ k u v. let n = listed-near m s li k (omega arith) .1 .0 in (g .upper k u v, omega arith);
+        under = λ k u v. lower-a k u v (decLt k (q .c)) (decLt k (q .d));
+        head = refl;
+      });
+      same = subst (λ (c : Cursor). CursorAt m s 2 c) (sym eh) (record {
+        low = bc;
+        high = omega arith;
+        past = λ k u. inl (past-b k u (decLt k (q .a)));
+        here = λ k u v. let n = listed-near m s li k (omega arith) .1 .0 in (g .same k u v, omega arith);
+        under = λ k u v. lower-b k u v (decLt k (q .d));
+        head = refl;
+      });
+      lower = subst (λ (c : Cursor). CursorAt m s 2 c) (sym eb) (record {
+        low = cd;
+        high = dn;
+        past = λ k u. inl (past-c k u (decLt k (q .a)) (decLt k (q .b)));
+        here = λ k u v. let n = listed-near m s li k (omega arith) .1 .0 in (g .lower k u v, omega arith);
+        under = λ k u v. g .left k u v;
+        head = refl;
+      });
+      second = omega arith;
+      third = omega arith;
+      first-column = sym (bare-column m s (a .row) 0 2 bare 0 (h .row) (omega arith) (omega arith) (omega arith));
+      next-column = sym (bare-column m s (a .row) 0 2 bare 1 (h .row) (omega arith) (omega arith) (omega arith));
+      centre = sym (bare-lives m s (a .row) 0 2 bare 1 (h .row) (omega arith) (omega arith) (omega arith) (omega arith));
+      bound = omega arith;
     }
   where
     past-b : (k : ℕ) → k < q .b → Dec (k < q .a) → rowAt m (s .at) k < q .top + 1
     past-b k u (yes p) = let o = g .gone k p in omega arith
     past-b k u (no p) = let o = g .upper k (omega arith) u in omega arith
+
     past-c : (k : ℕ) → k < q .c → Dec (k < q .a) → Dec (k < q .b) → rowAt m (s .at) k < q .top + 2
     past-c k u (yes p) r = let o = g .gone k p in omega arith
     past-c k u (no p) (yes r) = let o = g .upper k (omega arith) r in omega arith
     past-c k u (no p) (no r) = let o = g .same k (omega arith) u in omega arith
+
     lower-b : (k : ℕ) → q .c ≤ k → k < s .len → Dec (k < q .d) → q .top + 1 < rowAt m (s .at) k
     lower-b k u v (yes p) = let o = g .lower k u p in omega arith
     lower-b k u v (no p) = let o = g .left k (omega arith) v in omega arith
+
     lower-a : (k : ℕ) → q .b ≤ k → k < s .len → Dec (k < q .c) → Dec (k < q .d) → q .top < rowAt m (s .at) k
     lower-a k u v (yes p) r = let o = g .same k u p in omega arith
     lower-a k u v (no p) (yes r) = let o = g .lower k (omega arith) r in omega arith
@@ -183,24 +217,38 @@ pub progress-start : (r : Rule) (m : List ℕ) (s : Stretch) (to : ℕ) → T (g
 unfolding tab inOrder lives
 progress-start r m s to g h room apart =
     record {
-        good = g; listed = h; room = room; apart = apart; few = omega arith;
-        done = record { ordered = tt; each = λ x y. bool-same false (before (cellAt x y) (rowStart 1) && planeNext r m s x y) (λ t. absurd t)
-            (λ t. absurd (start-none r g m s h x y (and-r (before (cellAt x y) (rowStart 1)) (planeNext r m s x y) t) (and-l (before (cellAt x y) (rowStart 1)) (planeNext r m s x y) t))) }
+      good = g;
+      listed = h;
+      room = room;
+      apart = apart;
+      few = omega arith;
+      done = record {
+        ordered = tt;
+        each = λ x y. bool-same false (before (cellAt x y) (rowStart 1) && planeNext r m s x y) (λ t. absurd t)
+            (λ t. absurd (start-none r g m s h x y (and-r (before (cellAt x y) (rowStart 1)) (planeNext r m s x y) t) (and-l (before (cellAt x y) (rowStart 1)) (planeNext r m s x y) t)));
+      };
     }
 
 pub rows-start : (m : List ℕ) (s : Stretch) → Listed m s → RowsAt m s (record { top = 0; a = 0; b = 0; c = 0; d = 0 })
 rows-start m s h =
     record {
-        ab = omega arith; bc = omega arith; cd = omega arith; dn = omega arith; bound = omega arith;
-        gone = λ k b. absurd (omega arith); upper = λ k a b. absurd (omega arith); same = λ k a b. absurd (omega arith); lower = λ k a b. absurd (omega arith);
-        left = λ k a b. let n = listed-near m s h k b .0 .0 in omega arith
+      ab = omega arith;
+      bc = omega arith;
+      cd = omega arith;
+      dn = omega arith;
+      bound = omega arith;
+      gone = λ k b. absurd (omega arith);
+      upper = λ k a b. absurd (omega arith);
+      same = λ k a b. absurd (omega arith);
+      lower = λ k a b. absurd (omega arith);
+      left = λ k a b. let n = listed-near m s h k b .0 .0 in omega arith;
     }
 
 row-up : (a b : ℕ) → a ≤ b → (x y : ℤ) → T (before (cellAt x y) (rowStart (a + 1))) → T (before (cellAt x y) (rowStart (b + 1)))
 row-up a b l x y t =
     elim (before-out x y _ _ t) [
-        inl p ↦ before-row x y _ _ (omega (arith, ints))
-        | inr p ↦ let p0 = p .0 in let p1 = p .1 in elim (le-or y (toZ (b + 1))) [ inl q ↦ before-column x y _ _ (omega (arith, ints)) p1 | inr q ↦ before-row x y _ _ q ]
+      | inl p ↦ before-row x y _ _ (omega (arith, ints))
+      | inr p ↦ let p0 = p .0 in let p1 = p .1 in elim (le-or y (toZ (b + 1))) [ inl q ↦ before-column x y _ _ (omega (arith, ints)) p1 | inr q ↦ before-row x y _ _ q ]
     ]
 
 -- a cell with none near it in rows a to before b + 2
@@ -208,27 +256,33 @@ row-hit : (r : Rule) → T (goodRule r) → (m : List ℕ) (s : Stretch) (a b : 
 row-hit r g m s a b h none x y t u n =
     let k = near-cell r g m s x y t in let k1 = k .left in let k2 = k .right in let k3 = k .up in let k4 = k .down in let w = listed-near m s h (k .index) (k .high) in let w1 = w .1 .0 in
     elim (le-or y (toZ (a + 1))) [
-        inl l ↦ elim (before-out x y _ _ u) [
-            inl p ↦ none (k .index) (k .high) (omega (arith, ints)) (omega (arith, ints))
-            | inr p ↦ let p1 = p .1 in omega (arith, ints) ]
-        | inr l ↦ n (before-row x y _ _ l)
+      | inl l ↦ elim (before-out x y _ _ u) [
+        | inl p ↦ none (k .index) (k .high) (omega (arith, ints)) (omega (arith, ints))
+        | inr p ↦ let p1 = p .1 in omega (arith, ints)
+      ]
+      | inr l ↦ n (before-row x y _ _ l)
     ]
 
 pub progress-rows : (r : Rule) (m : List ℕ) (s : Stretch) (to n : ℕ) (q q′ : Rows) → Progress r m s to n (rowStart (q .top + 1)) → RowsSkipped m s q q′ true → Progress r m s to n (rowStart (q′ .top + 1))
 progress-rows r m s to n q q′ p (g, nonempty, left, le, how) =
     elim how [
-        inl e ↦ subst (λ (u : ℕ). Progress r m s to n (rowStart (u + 1))) (sym e) p
-        | inr none ↦ record {
-            good = p .good; listed = p .listed; room = p .room; apart = p .apart; few = p .few;
-            done = done-skip (planeNext r m s) _ _ _ (p .done) (row-up (q .top) (q′ .top) le) (λ x y b t. decide _ (λ z. row-hit r (p .good) m s (q .top) (q′ .top) (p .listed) none x y t b z)) }
+      | inl e ↦ subst (λ (u : ℕ). Progress r m s to n (rowStart (u + 1))) (sym e) p
+      | inr none ↦ record {
+        good = p .good;
+        listed = p .listed;
+        room = p .room;
+        apart = p .apart;
+        few = p .few;
+        done = done-skip (planeNext r m s) _ _ _ (p .done) (row-up (q .top) (q′ .top) le) (λ x y b t. decide _ (λ z. row-hit r (p .good) m s (q .top) (q′ .top) (p .listed) none x y t b z));
+      }
     ]
 
 pub progress-end : (r : Rule) (m : List ℕ) (s : Stretch) (to n : ℕ) (q : Rows) → Progress r m s to n (rowStart (q .top + 1)) → NoRows m s (q .top) (2 ^ 64) → cellsIn m (record { at = to; len = n }) ≡ nextOf r (cellsIn m s)
 progress-end r m s to n q p none =
     done-end r (p .good) (cellsIn m s) _ _ (p .done)
     (λ x y t.
-        let k = near-cell r (p .good) m s x y t in let k3 = k .up in let k4 = k .down in let w = listed-near m s (p .listed) (k .index) (k .high) .0 .1 in
-        elim (le-or y (toZ (q .top + 1))) [ inl l ↦ absurd (none (k .index) (k .high) (omega (arith, ints)) (omega arith)) | inr l ↦ before-row x y _ _ l ])
+    let k = near-cell r (p .good) m s x y t in let k3 = k .up in let k4 = k .down in let w = listed-near m s (p .listed) (k .index) (k .high) .0 .1 in
+    elim (le-or y (toZ (q .top + 1))) [ inl l ↦ absurd (none (k .index) (k .high) (omega (arith, ints)) (omega arith)) | inr l ↦ before-row x y _ _ l ])
 
 -- the next row's start, as the rows have moved
 pub progress-lower : (r : Rule) (m : List ℕ) (s : Stretch) (to n v v′ : ℕ) → Progress r m s to n (rowStart v) → v ≡ v′ → Progress r m s to n (rowStart v′)

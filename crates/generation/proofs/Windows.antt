@@ -54,8 +54,10 @@ counted m s v k b lo hi x ex y ey = go (decLt (rowAt m (s .at) k) y) (decLt y (r
         one-of _
         (subst (λ (c : ℕ). T (lives (toZ c) (toZ r) (cellsIn m s))) ex
         (subst (λ (c : ℕ). T (lives (toZ (colAt m (s .at) k)) (toZ c) (cellsIn m s))) er (listed-lives m s k b)))
+
     is : column (planeOf (cellsIn m s)) (toZ x) (toZ y) ≡ asOne (lives (toZ x) (toZ v) (cellsIn m s)) + (asOne (lives (toZ x) (toZ y) (cellsIn m s)) + asOne (lives (toZ x) (toZ (v + 2)) (cellsIn m s)))
     is = column-is m s x v y (v + 2) ey refl
+
     go : Dec (rowAt m (s .at) k < y) → Dec (y < rowAt m (s .at) k) → 0 < column (planeOf (cellsIn m s)) (toZ x) (toZ y)
     go (yes p) q = let h = l v (omega arith) in let j = is in omega arith
     go (no p) (yes q) = let h = l (v + 2) (omega arith) in let j = is in omega arith
@@ -65,8 +67,8 @@ pub bare-lives : (m : List ℕ) (s : Stretch) (v a b : ℕ) → Bare m s v a b �
 bare-lives m s v a b h x y l u lo hi =
     false-of _
     (λ t.
-        let k = listed-find m s _ _ t in let ex = toZ-inj _ _ (k .column) in let ey = toZ-inj _ _ (k .row) in
-        h (k .index) (k .high) (omega arith) (omega arith) (omega arith) (omega arith))
+    let k = listed-find m s _ _ t in let ex = toZ-inj _ _ (k .column) in let ey = toZ-inj _ _ (k .row) in
+    h (k .index) (k .high) (omega arith) (omega arith) (omega arith) (omega arith))
 
 pub bare-column : (m : List ℕ) (s : Stretch) (v a b : ℕ) → Bare m s v a b → (x y : ℕ) → a ≤ x → x < b → y ≡ v + 1 → column (planeOf (cellsIn m s)) (toZ x) (toZ y) ≡ 0
 bare-column m s v a b h x y l u e =
@@ -81,14 +83,17 @@ bare-upto m s w h g el em f fa fh fb k b lo hi l u = go (decLt (colAt m (s .at) 
   where
     cnt : (x : ℕ) → colAt m (s .at) k ≡ x → 0 < column (planeOf (cellsIn m s)) (toZ x) (toZ (w .here .row))
     cnt x e = counted m s (w .above .row) k b lo hi x e (w .here .row) (g .second)
+
     stop : (c : Cursor) → CursorAt m s (w .x + 2) c → f ≤ c .head → rowAt m (s .at) k ≡ c .row → w .x + 2 ≤ colAt m (s .at) k → ⊥
     stop c a le e n =
         let p = at-cursor m s (w .x + 2) c h a k b e n in let p0 = p .0 in let p1 = p .1 in
         elim (head-says m s (w .x + 2) c h a) [ inl q ↦ let q0 = q .0 in omega arith | inr q ↦ let q1 = q .column in omega arith ]
+
     row : w .x + 2 ≤ colAt m (s .at) k → Dec (rowAt m (s .at) k < w .here .row) → Dec (w .here .row < rowAt m (s .at) k) → ⊥
     row n (yes p) q = let e = g .second in stop (w .above) (g .upper) fa (omega arith) n
     row n (no p) (yes q) = let e = g .second in let e2 = g .third in stop (w .below) (g .lower) fb (omega arith) n
     row n (no p) (no q) = stop (w .here) (g .same) fh (omega arith) n
+
     go : Dec (colAt m (s .at) k < w .x + 1) → Dec (colAt m (s .at) k < w .x + 2) → ⊥
     go (yes p) q = let e = cnt (w .x) (omega arith) in let j = g .first-column in omega arith
     go (no p) (yes q) = let e = cnt (w .x + 1) (omega arith) in let j = g .next-column in omega arith
@@ -125,15 +130,15 @@ least-of w e f p q = go (decLt (w .above .head) (w .here .head)) (decLt e (w .be
 some-head : (m : List ℕ) (s : Stretch) (x : ℕ) (c : Cursor) → Listed m s → CursorAt m s x c → (f : ℕ) → f ≡ c .head → (f ≡ 2 ^ 64 - 1 → ⊥) → (x ≤ f) × (2 ^ 60 ≤ f) × (f ≤ 3 * 2 ^ 60)
 some-head m s x c h a f e n =
     elim (head-says m s x c h a) [
-        inl g ↦ let g1 = g .1 in absurd (n (omega arith))
-        | inr g ↦ let g1 = g .from in let g2 = g .low in let g3 = g .high in (omega arith, omega arith, omega arith)
+      | inl g ↦ let g1 = g .1 in absurd (n (omega arith))
+      | inr g ↦ let g1 = g .from in let g2 = g .low in let g3 = g .high in (omega arith, omega arith, omega arith)
     ]
 
 least-some : (m : List ℕ) (s : Stretch) (w : Sweep) (f : ℕ) → Listed m s → Window m s w → Least w f → (f ≡ 2 ^ 64 - 1 → ⊥) → (w .x + 2 ≤ f) × (2 ^ 60 ≤ f) × (f ≤ 3 * 2 ^ 60)
 least-some m s w f h g l n =
     elim (l .one) [
-        inl e ↦ some-head m s _ (w .above) h (g .upper) f e n
-        | inr r ↦ elim r [ inl e ↦ some-head m s _ (w .here) h (g .same) f e n | inr e ↦ some-head m s _ (w .below) h (g .lower) f e n ]
+      | inl e ↦ some-head m s _ (w .above) h (g .upper) f e n
+      | inr r ↦ elim r [ inl e ↦ some-head m s _ (w .here) h (g .same) f e n | inr e ↦ some-head m s _ (w .below) h (g .lower) f e n ]
     ]
 
 zero-alive : (m : List ℕ) (s : Stretch) (w : Sweep) → Window m s w → w .middle ≡ 0 → w .alive ≡ false
@@ -147,17 +152,24 @@ skip-jump m s w f x′ h g el em l n e =
     let b = least-some m s w f h g l n in let b0 = b .0 in let b1 = b .1 in let b2 = b .2 in
     let l0 = l .above in let l1 = l .here in let l2 = l .below in
     let bare = bare-upto m s w h g el em f l0 l1 l2 in let z : f ≡ x′ + 2 = omega arith in
-    let skip : (c : Cursor) → CursorAt m s (w .x + 2) c → f ≤ c .head → CursorAt m s (x′ + 2) c = λ c a q. cursor-skip m s (w .x + 2) (x′ + 2) c h a (omega arith) (omega arith) in
-    ( record {
-        upper = skip (w .above) (g .upper) l0; same = skip (w .here) (g .same) l1; lower = skip (w .below) (g .lower) l2;
-        second = g .second; third = g .third;
+    let skip : (c : Cursor) → CursorAt m s (w .x + 2) c → f ≤ c .head → CursorAt m s (x′ + 2) c = λ c a q. cursor-skip m s (w .x + 2) (x′ + 2) c h a (omega arith) (omega arith) in (
+      record {
+        upper = skip (w .above) (g .upper) l0;
+        same = skip (w .here) (g .same) l1;
+        lower = skip (w .below) (g .lower) l2;
+        second = g .second;
+        third = g .third;
         first-column = el ∙ sym (bare-column m s (w .above .row) (w .x) f bare x′ (w .here .row) (omega arith) (omega arith) (g .second));
         next-column = em ∙ sym (bare-column m s (w .above .row) (w .x) f bare (x′ + 1) (w .here .row) (omega arith) (omega arith) (g .second));
         centre = let gs = g .second in zero-alive m s w g em ∙ sym (bare-lives m s (w .above .row) (w .x) f bare (x′ + 1) (w .here .row) (omega arith) (omega arith) (omega arith) (omega arith));
-        bound = omega arith },
+        bound = omega arith;
+      },
       inr (elim (l .one) [ inl q ↦ inl (sym q ∙ z) | inr r ↦ elim r [ inl q ↦ inr (inl (sym q ∙ z)) | inr q ↦ inr (inr (sym q ∙ z)) ] ]),
-      refl, refl, omega arith,
-      inr (subst (λ (u : ℕ). Bare m s (w .above .row) (w .x) u) z bare) )
+      refl,
+      refl,
+      omega arith,
+      inr (subst (λ (u : ℕ). Bare m s (w .above .row) (w .x) u) z bare),
+    )
 
 pub skip-stay : (m : List ℕ) (s : Stretch) (w : Sweep) → Window m s w → 0 < w .left + w .middle → Skipped m s w w true
 skip-stay m s w g l = (g, inl l, refl, refl, omega arith, inl refl)
@@ -200,6 +212,7 @@ column-some m s x u v w h e f p = go (decLt (3 * 2 ^ 60) x)
   where
     none : (y : ℕ) → 3 * 2 ^ 60 < x → asOne (lives (toZ x) (toZ y) (cellsIn m s)) ≡ 0
     none y l = ap asOne (false-of _ (λ t. let k = listed-find m s _ _ t in let ex = toZ-inj _ _ (k .column) in let n = listed-near m s h (k .index) (k .high) .1 .1 in omega arith))
+
     go : Dec (3 * 2 ^ 60 < x) → x ≤ 3 * 2 ^ 60
     go (yes l) = let j = column-is m s x u v w e f in let a = none u l in let b = none v l in let c = none w l in absurd (omega arith)
     go (no l) = omega arith
@@ -211,12 +224,14 @@ ready-high : (m : List ℕ) (s : Stretch) (w : Sweep) → Listed m s → Window 
 ready-high m s w h g r =
     let bd = g .bound in
     elim r [
-        inl p ↦ go (decLt 0 (w .left)) p
-        | inr q ↦ elim q [
-            inl e ↦ let z = head-high m s (w .x + 2) (w .above) h (g .upper) (omega arith) e in omega arith
-            | inr t ↦ elim t [
-                inl e ↦ let z = head-high m s (w .x + 2) (w .here) h (g .same) (omega arith) e in omega arith
-                | inr e ↦ let z = head-high m s (w .x + 2) (w .below) h (g .lower) (omega arith) e in omega arith ] ]
+      | inl p ↦ go (decLt 0 (w .left)) p
+      | inr q ↦ elim q [
+        | inl e ↦ let z = head-high m s (w .x + 2) (w .above) h (g .upper) (omega arith) e in omega arith
+        | inr t ↦ elim t [
+          | inl e ↦ let z = head-high m s (w .x + 2) (w .here) h (g .same) (omega arith) e in omega arith
+          | inr e ↦ let z = head-high m s (w .x + 2) (w .below) h (g .lower) (omega arith) e in omega arith
+        ]
+      ]
     ]
   where
     go : Dec (0 < w .left) → 0 < w .left + w .middle → w .x ≤ 3 * 2 ^ 60
@@ -243,14 +258,17 @@ slide-window m s w ca ch cb a h b na nh nb li g r ta th tb =
     let up : (c : Cursor) → CursorAt m s (w .x + 2 + 1) c → CursorAt m s (w .x + 1 + 2) c = λ c q. subst (λ (u : ℕ). CursorAt m s u c) e q in
     let ra = ta .row in let rh = th .row in let rb = tb .row in let s2 = g .second in let s3 = g .third in let hi = ready-high m s w li g r in
     record {
-        upper = up ca (ta .moved); same = up ch (th .moved); lower = up cb (tb .moved);
-        second = omega arith; third = omega arith;
-        first-column = subst (λ (u : ℕ). w .middle ≡ column (planeOf (cellsIn m s)) (toZ (w .x + 1)) (toZ u)) (sym rh) (g .next-column);
-        next-column = subst (λ (u : ℕ). na + nh + nb ≡ column (planeOf (cellsIn m s)) (toZ u) (toZ (ch .row))) f
-            (subst (λ (u : ℕ). na + nh + nb ≡ column (planeOf (cellsIn m s)) (toZ (w .x + 2)) (toZ u)) (sym rh) (right-column m s w ca ch cb a h b na nh nb g ta th tb));
-        centre = subst (λ (u : ℕ). h ≡ lives (toZ u) (toZ (ch .row)) (cellsIn m s)) f
-            (subst (λ (u : ℕ). h ≡ lives (toZ (w .x + 2)) (toZ u) (cellsIn m s)) (sym rh) (th .cell));
-        bound = omega arith
+      upper = up ca (ta .moved);
+      same = up ch (th .moved);
+      lower = up cb (tb .moved);
+      second = omega arith;
+      third = omega arith;
+      first-column = subst (λ (u : ℕ). w .middle ≡ column (planeOf (cellsIn m s)) (toZ (w .x + 1)) (toZ u)) (sym rh) (g .next-column);
+      next-column = subst (λ (u : ℕ). na + nh + nb ≡ column (planeOf (cellsIn m s)) (toZ u) (toZ (ch .row))) f
+          (subst (λ (u : ℕ). na + nh + nb ≡ column (planeOf (cellsIn m s)) (toZ (w .x + 2)) (toZ u)) (sym rh) (right-column m s w ca ch cb a h b na nh nb g ta th tb));
+      centre = subst (λ (u : ℕ). h ≡ lives (toZ u) (toZ (ch .row)) (cellsIn m s)) f
+          (subst (λ (u : ℕ). h ≡ lives (toZ (w .x + 2)) (toZ u) (cellsIn m s)) (sym rh) (th .cell));
+      bound = omega arith;
     }
 
 -- a head that is hit is taken
@@ -265,11 +283,13 @@ slide-falls m s w ca ch cb a h b na nh nb g r ta th tb = fall some
     some : 0 < w .left + w .middle + (na + nh + nb)
     some =
         elim r [
-            inl p ↦ omega arith
-            | inr q ↦ elim q [
-                inl e ↦ let z = hit-one m s _ _ _ _ _ ta e in omega arith
-                | inr t ↦ elim t [ inl e ↦ let z = hit-one m s _ _ _ _ _ th e in omega arith | inr e ↦ let z = hit-one m s _ _ _ _ _ tb e in omega arith ] ]
+          | inl p ↦ omega arith
+          | inr q ↦ elim q [
+            | inl e ↦ let z = hit-one m s _ _ _ _ _ ta e in omega arith
+            | inr t ↦ elim t [ inl e ↦ let z = hit-one m s _ _ _ _ _ th e in omega arith | inr e ↦ let z = hit-one m s _ _ _ _ _ tb e in omega arith ]
+          ]
         ]
+
     fall : 0 < w .left + w .middle + (na + nh + nb) → weight (slid w ca ch cb (na + nh + nb) h) < weight w
     fall p =
         let a1 = ta .at in let a2 = ta .end in let a3 = ta .moved .low in let a4 = ta .byte ∙ byte-one a in

@@ -8,6 +8,7 @@ ghost use Rattle.lent.specs.Stretches.{Listed, Beside, Apart, roomWords};
 ghost use Rattle.model.specs.Rules.{goodRule};
 ghost use Rattle.rules.specs.Laws.{law};
 ghost use Rattle.generation.specs.Scan.{Window, Ready, RowsAt, Progress, Turned, RowMade, NextMade, weight, centreOf, rowStart};
+
 mod scan;
 
 use lent::Stretch;
@@ -20,7 +21,14 @@ use scan::Sweep;
 const MOST_CELLS: usize = 4096;
 
 // One column: its cell is appended to the list at `to`, which has `out` cells, if it lives. None where that list is full.
-fn turn(words: &mut Words, rule: Rule, from: Stretch, sweep: &mut Sweep, to: usize, out: usize) -> Option<usize>
+fn turn(
+    words: &mut Words,
+    rule: Rule,
+    from: Stretch,
+    sweep: &mut Sweep,
+    to: usize,
+    out: usize,
+) -> Option<usize>
     requires progress { ⌜ Progress (law rule) (mem (now words)) from to out (centreOf (now sweep)) ⌝ }
     requires window { ⌜ Window (mem (now words)) from (now sweep) ⌝ }
     requires ready { ⌜ Ready (now sweep) ⌝ }
@@ -44,7 +52,14 @@ fn turn(words: &mut Words, rule: Rule, from: Stretch, sweep: &mut Sweep, to: usi
 }
 
 // One row, the middle one of the three: its living cells are appended to the list at `to`.
-fn next_row(words: &mut Words, rule: Rule, from: Stretch, rows: Rows, to: usize, out: usize) -> Option<usize>
+fn next_row(
+    words: &mut Words,
+    rule: Rule,
+    from: Stretch,
+    rows: Rows,
+    to: usize,
+    out: usize,
+) -> Option<usize>
     requires progress { ⌜ Progress (law rule) (mem (now words)) from to out (rowStart (rows .top + 1)) ⌝ }
     requires rows { ⌜ RowsAt (mem (now words)) from rows ⌝ }
     ensures same { λ _. ⌜ Same (now (words .entry)) (now (words .exit)) ⌝ }

@@ -29,7 +29,11 @@ fn head(words: &Words, from: Stretch, at: usize, end: usize) -> u64
     requires { ⌜ from .at + roomWords ≤ length (mem (now words)) ⌝ ∗ ⌜ end ≤ roomCells ⌝ }
     ensures { λ r. ⌜ r ≡ headOf (mem (now (words .entry))) from at end ⌝ }
 {
-    if at < end { words.read(from.at + 2 * at + 1) } else { END }
+    if at < end {
+        words.read(from.at + 2 * at + 1)
+    } else {
+        END
+    }
 }
 
 impl Cursor {
@@ -37,7 +41,12 @@ impl Cursor {
         requires { ⌜ from .at + roomWords ≤ length (mem (now words)) ⌝ ∗ ⌜ end ≤ roomCells ⌝ }
         ensures { λ r. ⌜ r ≡ record { row = row; at = at; end = end; head = headOf (mem (now (words .entry))) from at end } ⌝ }
     {
-        Cursor { row, at, end, head: head(words, from, at, end) }
+        Cursor {
+            row,
+            at,
+            end,
+            head: head(words, from, at, end),
+        }
     }
 
     // Whether the row's cell in column x lives. The cursor moves on to the next column.
@@ -140,7 +149,10 @@ impl Sweep {
         let below = self.below.take(words, from, x);
         let right = u32::from(above) + u32::from(here) + u32::from(below);
         let neighbours = self.left + self.middle + right - u32::from(self.alive);
-        let spot = Spot { alive: self.alive, neighbours };
+        let spot = Spot {
+            alive: self.alive,
+            neighbours,
+        };
         self.x += 1;
         self.left = self.middle;
         self.middle = right;
@@ -179,7 +191,13 @@ impl Rows {
     pub fn start() -> Rows
         ensures { λ r. ⌜ r ≡ record { top = 0; a = 0; b = 0; c = 0; d = 0 } ⌝ }
     {
-        Rows { top: 0, a: 0, b: 0, c: 0, d: 0 }
+        Rows {
+            top: 0,
+            a: 0,
+            b: 0,
+            c: 0,
+            d: 0,
+        }
     }
 
     // Moves on to the next rows with a cell; false if there are none.

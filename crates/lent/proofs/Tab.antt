@@ -26,8 +26,8 @@ unfolding tab
 tab-out f i zero x y t = absurd (lives-none x y t)
 tab-out f i (suc n) x y t =
     elim (lives-out x y (f i) (tab f (suc i) n) t) [
-        inl e ↦ record { index = i; low = omega arith; high = omega arith; is = sym e }
-        | inr h ↦ let k = tab-out f (suc i) n x y h in record { index = k .index; low = omega arith; high = omega arith; is = k .is }
+      | inl e ↦ record { index = i; low = omega arith; high = omega arith; is = sym e }
+      | inr h ↦ let k = tab-out f (suc i) n x y h in record { index = k .index; low = omega arith; high = omega arith; is = k .is }
     ]
 
 pub tab-in : (f : ℕ → Cell) (i n : ℕ) (x y : ℤ) → Has f i n (cellAt x y) → T (lives x y (tab f i n))
@@ -35,10 +35,10 @@ unfolding tab
 tab-in f i zero x y k = let l = k .low in let h = k .high in absurd (omega arith)
 tab-in f i (suc n) x y k =
     elim (decLt i (k .index)) [
-        yes h ↦ lives-tail x y (f i) (tab f (suc i) n) (tab-in f (suc i) n x y (record { index = k .index; low = omega arith; high = omega arith; is = k .is }))
-        | no h ↦
-            let e : k .index ≡ i = let l = k .low in omega arith in
-            subst (λ (c : Cell). T (lives (c .x) (c .y) (f i ∷ tab f (suc i) n))) (ap f (sym e) ∙ k .is) (lives-head (f i) (tab f (suc i) n))
+      | yes h ↦ lives-tail x y (f i) (tab f (suc i) n) (tab-in f (suc i) n x y (record { index = k .index; low = omega arith; high = omega arith; is = k .is }))
+      | no h ↦
+          let e : k .index ≡ i = let l = k .low in omega arith in
+          subst (λ (c : Cell). T (lives (c .x) (c .y) (f i ∷ tab f (suc i) n))) (ap f (sym e) ∙ k .is) (lives-head (f i) (tab f (suc i) n))
     ]
 
 pub tab-length : (f : ℕ → Cell) (i n : ℕ) → length (tab f i n) ≡ n
@@ -53,8 +53,8 @@ tab-order f i zero h = tt
 tab-order f i (suc n) h =
     order-in (f i) (tab f (suc i) n)
     (λ x y t.
-        let k = tab-out f (suc i) n x y t in
-        subst (λ (c : Cell). T (before (f i) c)) (k .is) (h i (k .index) (omega arith) (omega arith) (omega arith)))
+    let k = tab-out f (suc i) n x y t in
+    subst (λ (c : Cell). T (before (f i) c)) (k .is) (h i (k .index) (omega arith) (omega arith) (omega arith)))
     (tab-order f (suc i) n (λ j k a b c. h j k (omega arith) b (omega arith)))
 
 pub order-tab : (f : ℕ → Cell) (i n : ℕ) → T (inOrder (tab f i n)) → (j k : ℕ) → i ≤ j → j < k → k < i + n → T (before (f j) (f k))
@@ -62,11 +62,11 @@ unfolding tab
 order-tab f i zero t j k a b c = absurd (omega arith)
 order-tab f i (suc n) t j k a b c =
     elim (decLt i j) [
-        yes h ↦ order-tab f (suc i) n (order-tail (f i) (tab f (suc i) n) t) j k (omega arith) b (omega arith)
-        | no h ↦
-            let e : i ≡ j = omega arith in
-            let later = tab-in f (suc i) n (f k .x) (f k .y) (record { index = k; low = omega arith; high = omega arith; is = refl }) in
-            subst (λ (u : ℕ). T (before (f u) (f k))) e (order-after (f i) (tab f (suc i) n) (f k .x) (f k .y) t later)
+      | yes h ↦ order-tab f (suc i) n (order-tail (f i) (tab f (suc i) n) t) j k (omega arith) b (omega arith)
+      | no h ↦
+          let e : i ≡ j = omega arith in
+          let later = tab-in f (suc i) n (f k .x) (f k .y) (record { index = k; low = omega arith; high = omega arith; is = refl }) in
+          subst (λ (u : ℕ). T (before (f u) (f k))) e (order-after (f i) (tab f (suc i) n) (f k .x) (f k .y) t later)
     ]
 
 pub tab-same : (f g : ℕ → Cell) (i n : ℕ) → ((k : ℕ) → i ≤ k → k < i + n → f k ≡ g k) → tab f i n ≡ tab g i n

@@ -53,10 +53,11 @@ beside-trans p q = record { long = q .long ∙ p .long; others = λ k h. q .othe
 pub written-beside : (m : List ℕ) (at i row col : ℕ) → i < roomCells → Beside at m (withEntry m at i row col)
 written-beside m at i row col h =
     record {
-        long = written-length m at i row col;
-        others = λ k o. elim o [
-            inl l ↦ written-other m at i row col k (λ e. omega arith) (λ e. omega arith)
-            | inr l ↦ written-other m at i row col k (λ e. omega arith) (λ e. omega arith) ]
+      long = written-length m at i row col;
+      others = λ k o. elim o [
+        | inl l ↦ written-other m at i row col k (λ e. omega arith) (λ e. omega arith)
+        | inr l ↦ written-other m at i row col k (λ e. omega arith) (λ e. omega arith)
+      ];
     }
 
 -- a list in a stretch that shares no word with the written one

@@ -19,7 +19,7 @@ use Rattle.std.specs.declared.option.Option.{Option}
 use Rattle.std.specs.declared.option.Option.the-variants.{Some, None}
 use Rattle.rules.specs.Texts.{reads}
 use Rattle.lines.specs.Numerals.{into, digitOn, readOn, naturalOf, atMost, placeOf}
-use Rattle.lines.specs.Splits.{Word, longer, wordsOf, noneLeft}
+use Rattle.lines.specs.Splits.{Word, isText, longer, wordsOf, noneLeft}
 use Rattle.lines.specs.Promise.{spaced, WordsRight, NumbersRight, Examples, Refusals}
 
 abbrev NoSpace : Word → Type 0
@@ -129,9 +129,9 @@ pub numbers-right : NumbersRight
 numbers-right = (λ n h. natural-is n (decimal n) (says n h), place-is)
 
 pub examples : Examples
-unfolding wordsOf readOn reads
+unfolding isText wordsOf readOn reads
 examples = (refl, refl, refl, refl, refl, refl, refl, refl, refl, refl, refl)
 
 pub refusals : Refusals
-unfolding wordsOf readOn reads
-refusals = (refl, refl, refl, refl, refl, refl, refl, refl, refl, refl, refl, refl, refl, refl, refl, refl, refl)
+unfolding isText wordsOf readOn reads
+refusals = (refl, refl, refl, refl, refl, refl, refl, refl, refl, refl, refl, refl, refl, refl, refl, refl, refl, refl)

@@ -1,4 +1,4 @@
--- A line is its first word, and the words after the space that ends it.
+-- The characters of a line; a line is its first word, and the words after the space that ends it.
 use mathlib.Core.Path.{_≡_, refl, _∙_, ap, sym}
 use mathlib.Core.Bool.{Bool, true, false, cond}
 use mathlib.Core.List.{List, [], _∷_}
@@ -9,7 +9,7 @@ use lib.Dec.{leb, ltb, eqb}
 use lib.ListN.{length, take, drop, getD}
 use Rattle.std.proofs.shelf.Lists.{at-drop-more, at-drop-all, drop-drop}
 use Rattle.std.proofs.shelf.Tests.{cases-lt, le-leb, lt-leb, lt-ltb, le-ltb, eq-eqb, ne-eqb}
-use Rattle.lines.specs.Splits.{Word, longer, wordsOf, firstLength, noneLeft}
+use Rattle.lines.specs.Splits.{Word, isText, longer, wordsOf, firstLength, noneLeft}
 
 pub length-on : (i : ℕ) (bs : List ℕ) → i < length bs → (getD bs i 0 ≡ 32 → ⊥) →
     firstLength (drop i bs) ≡ suc (firstLength (drop (i + 1) bs))
@@ -23,6 +23,25 @@ length-space i bs h e = at-drop-more firstLength bs i 0 h ∙ rw (eq-eqb (getD b
 pub length-end : (i : ℕ) (bs : List ℕ) → length bs ≤ i → firstLength (drop i bs) ≡ 0
 unfolding firstLength
 length-end i bs h = at-drop-all firstLength bs i h
+
+-- ---- printable characters
+pub text-on : (i : ℕ) (bs : List ℕ) → i < length bs → 32 ≤ getD bs i 0 → getD bs i 0 ≤ 126 → isText (drop i bs) ≡ isText (drop (i + 1) bs)
+unfolding isText
+text-on i bs h low high = at-drop-more isText bs i 0 h ∙ rw (le-leb 32 (getD bs i 0) low, le-leb (getD bs i 0) 126 high)
+
+pub text-low : (i : ℕ) (bs : List ℕ) → i < length bs → getD bs i 0 < 32 → isText (drop i bs) ≡ false
+unfolding isText
+text-low i bs h low = at-drop-more isText bs i 0 h ∙ rw (lt-leb 32 (getD bs i 0) low)
+
+pub text-high : (i : ℕ) (bs : List ℕ) → i < length bs → 126 < getD bs i 0 → isText (drop i bs) ≡ false
+unfolding isText
+text-high i bs h high =
+    let low : 32 ≤ getD bs i 0 = omega arith in
+    at-drop-more isText bs i 0 h ∙ rw (le-leb 32 (getD bs i 0) low, lt-leb (getD bs i 0) 126 high)
+
+pub text-end : (i : ℕ) (bs : List ℕ) → length bs ≤ i → isText (drop i bs) ≡ true
+unfolding isText
+text-end i bs h = at-drop-all isText bs i h
 
 after : List ℕ → List Word
 after [] = []

@@ -16,7 +16,7 @@ use Rattle.rules.specs.Texts.{setsOf}
 use Rattle.lines.specs.declared.Command.{Command}
 use Rattle.lines.specs.declared.Command.the-variants.{Rule, Put, Run, Cell, Count, Row, Bounds, Period}
 use Rattle.lines.specs.Numerals.{into, naturalOf, atMost, placeOf, flagOf}
-use Rattle.lines.specs.Splits.{Word, wordsOf, first, rest}
+use Rattle.lines.specs.Splits.{Word, isText, wordsOf, first, rest}
 
 -- the next word says x, and k goes on with the words after it
 abbrev pub next : {A : Type 0} → (Word → Option A) → List Word → (A → List Word → Option Command) → Option Command
@@ -72,4 +72,4 @@ spoken [] = Err BadForm
 spoken (verb ∷ ws) = cond (sameBytes verb (codes "rule")) (ruleWords ws) (okOr (plainOf verb ws) BadForm)
 
 abbrev pub commandOf : List ℕ → Result Command Refusal
-commandOf line = spoken (wordsOf line)
+commandOf line = cond (isText line) (spoken (wordsOf line)) (Err BadForm)

@@ -2,7 +2,7 @@
 use mathlib.Core.Path.{_≡_}
 use mathlib.Core.Bool.{true, false}
 use mathlib.Core.List.{List, [], _∷_, _++_}
-use Prim.Native.Nat.{ℕ, _+_, _^_, _<_}
+use Prim.Native.Nat.{ℕ, _+_, _^_, _<_, _≤_}
 use lib.Chars.{codes}
 use lib.IntN.{ℤ, pos, negsuc}
 use lib.Signed.{mag}
@@ -32,6 +32,10 @@ WordsRight = (line : List ℕ) → (spaced (wordsOf line) ≡ line) × All (λ (
 abbrev pub NumbersRight : Type 0
 NumbersRight = ((n : ℕ) → n < 2 ^ 64 → naturalOf (decimal n) ≡ Some n) × ((z : ℤ) → mag z < 2 ^ 63 → placeOf (signed z) ≡ Some z)
 
+-- no row that is asked for is longer than this
+abbrev pub RowsShort : Type 0
+RowsShort = (line : List ℕ) (x y : ℤ) (n : ℕ) → commandOf line ≡ Ok (Row x y n) → n ≤ 2 ^ 20
+
 abbrev pub says : List ℕ → Command → Type 0
 says line c = commandOf line ≡ Ok c
 
@@ -50,6 +54,7 @@ Examples =
 abbrev pub Refusals : Type 0
 Refusals =
     refusedAs (codes "rule b3s2x") BadRule × refusedAs (codes "rule b32s23") BadRule × refusedAs (codes "rule b3s23 ") BadForm
+    × refusedAs (codes "rule b3s23" ++ (9 ∷ [])) BadForm
     × refusedAs (codes "rule ") BadForm × refusedAs (codes "rule") BadForm × refusedAs [] BadForm × refusedAs (codes " count") BadForm
     × refusedAs (codes "Count") BadForm × refusedAs (codes "cell 1  2") BadForm × refusedAs (codes "cell - 2") BadForm
     × refusedAs (codes "cell +1 2") BadForm × refusedAs (codes "cell 9223372036854775808 0") BadForm

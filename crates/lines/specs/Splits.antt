@@ -1,10 +1,15 @@
--- The words of a line: what stands before, between and after its spaces.
-use mathlib.Core.Bool.{Bool, true, false, cond}
+-- The characters of a line, and its words: what stands before, between and after its spaces.
+use mathlib.Core.Bool.{Bool, true, false, cond, _&&_}
 use mathlib.Core.List.{List, [], _∷_}
 use Prim.Native.Nat.{ℕ, suc}
-use lib.Dec.{eqb}
+use lib.Dec.{eqb, leb}
 use Rattle.std.specs.declared.option.Option.{Option}
 use Rattle.std.specs.declared.option.Option.the-variants.{None}
+
+-- only printable characters of ASCII
+unfoldable pub isText : List ℕ → Bool
+isText [] = true
+isText (c ∷ cs) = (leb 32 c && leb c 126) && isText cs
 
 abbrev pub Word : Type 0
 Word = List ℕ

@@ -5,7 +5,8 @@ mod words;
 ghost use mathlib.Core.Path.{_≡_};
 ghost use Rattle.lines.specs.Commands.{commandOf, plainOf, ruleWords, putOf, runOf, cellOf, rowOf, periodOf, last};
 ghost use Rattle.lines.specs.Left.{left};
-ghost use Rattle.lines.specs.Promise.{WordsRight, NumbersRight, Examples, Refusals};
+ghost use Rattle.lines.specs.Splits.{isText};
+ghost use Rattle.lines.specs.Promise.{WordsRight, NumbersRight, RowsShort, Examples, Refusals};
 use model::Refusal;
 use numerals::is;
 use rules::RuleSets;
@@ -30,6 +31,9 @@ impl Command {
     pub fn parse(line: &[u8]) -> Result<Command, Refusal>
         ensures { λ r. ⌜ r ≡ commandOf (now (line .entry)) ⌝ }
     {
+        if !is_text(line) {
+            return Err(Refusal::BadForm);
+        }
         let mut words = Words::new(line);
         let Some(verb) = words.next() else {
             return Err(Refusal::BadForm);
@@ -40,6 +44,18 @@ impl Command {
             plain(verb, &mut words).ok_or(Refusal::BadForm)
         }
     }
+}
+
+// Whether there are only printable characters of ASCII.
+fn is_text(line: &[u8]) -> bool
+    ensures { λ r. ⌜ r ≡ isText (now (line .entry)) ⌝ }
+{
+    for c in line {
+        if *c < b' ' || *c > b'~' {
+            return false;
+        }
+    }
+    true
 }
 
 // A word that is no rule is refused as such, and not as a line of no known form.
@@ -131,9 +147,10 @@ fn complete(words: &Words, command: Command) -> Option<Command>
     if words.done() { Some(command) } else { None }
 }
 
-// The words of a line make up the line, and a number is read from the digits that write it; with examples.
+// The words of a line make up the line, a number is read from the digits that write it, and no row is too long; with
+// examples.
 pub fn reading_stands() -> u8
-    ensures { λ _. ⌜ WordsRight × NumbersRight × Examples × Refusals ⌝ }
+    ensures { λ _. ⌜ WordsRight × NumbersRight × RowsShort × Examples × Refusals ⌝ }
 {
     0
 }

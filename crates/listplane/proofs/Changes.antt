@@ -27,6 +27,7 @@ near-size x y t = (first t, second t)
   where
     first : T (not (far x y)) → size x ≤ edge
     first t = grind arith
+
     second : T (not (far x y)) → size y ≤ edge
     second t = grind arith
 
@@ -38,8 +39,10 @@ put-near c b cs o t near =
   where
     old : (x y : ℤ) → T (lives x y cs) → (size x ≤ edge) × (size y ≤ edge)
     old x y l = let f = far-out cs x y l in let f0 = f .0 in let f1 = f .1 in (omega arith, omega arith)
+
     new : (x y : ℤ) → c ≡ cellAt x y → (size x ≤ edge) × (size y ≤ edge)
     new x y e = subst (λ (d : Cell). (size (d .x) ≤ edge) × (size (d .y) ≤ edge)) e (near-size (c .x) (c .y) t)
+
     pick : (x y : ℤ) → T (cond (sameCell c (cellAt x y)) b (lives x y cs)) → (size x ≤ edge) × (size y ≤ edge)
     pick x y = if-so (λ (z : Bool). T z → (size x ≤ edge) × (size y ≤ edge)) (sameCell c (cellAt x y)) b (lives x y cs) (λ s u. new x y (same-cell-out c (cellAt x y) s)) (λ s u. old x y u)
 
@@ -48,11 +51,15 @@ pub changed : (m m′ : List ℕ) (s s′ : Stretch) (c : Cell) (b : Bool) → S
 changed m m′ s s′ c b g long at few t e =
     let room = g .room in let w = g .listed .within in
     record {
-        placed = subst (λ (u : ℕ). Placed u) (sym at) (g .placed); few = few; room = omega arith;
-        listed = record {
-            within = omega arith; few = omega arith;
-            ordered = subst (λ (cs : List Cell). T (inOrder cs)) (sym e) (put-order c b (cellsIn m s) (g .listed .ordered));
-            near = subst (λ (cs : List Cell). farthest cs ≤ edge) (sym e) (put-near c b (cellsIn m s) (g .listed .ordered) t (g .listed .near)) }
+      placed = subst (λ (u : ℕ). Placed u) (sym at) (g .placed);
+      few = few;
+      room = omega arith;
+      listed = record {
+        within = omega arith;
+        few = omega arith;
+        ordered = subst (λ (cs : List Cell). T (inOrder cs)) (sym e) (put-order c b (cellsIn m s) (g .listed .ordered));
+        near = subst (λ (cs : List Cell). farthest cs ≤ edge) (sym e) (put-near c b (cellsIn m s) (g .listed .ordered) t (g .listed .near));
+      };
     }
 
 -- nothing to do

@@ -31,6 +31,7 @@ use runs::period_list;
 use runs::run_list;
 
 const FEWEST_WORDS: usize = 1 << 18;
+
 const MOST_WORDS: usize = 1 << 28;
 
 // So many cells are always held.
@@ -55,16 +56,24 @@ fn change(words: &mut Words, s: Stretch, i: usize, row: u64, column: u64, lives:
 {
     if lives {
         insert(words, s, i, row, column);
-        Stretch { at: s.at, len: s.len + 1 }
+        Stretch {
+            at: s.at,
+            len: s.len + 1,
+        }
     } else {
         remove(words, s, i);
-        Stretch { at: s.at, len: s.len - 1 }
+        Stretch {
+            at: s.at,
+            len: s.len - 1,
+        }
     }
 }
 
 pub impl Field for ListPlane as ListPlaneField {
     ghost world = { worldOn };
+
     ghost good = { Good };
+
     ghost sound = { λ f m g. (g .rule, g .staged .listed .ordered) };
 
     fn room(words: usize) -> Result<(), Refusal> {

@@ -41,6 +41,6 @@ abbrev pub PeriodRight : Type 0
 PeriodRight =
     (bound : ℕ) (w : World) →
     ((t : ℕ) (dx dy : ℤ) → period bound w ≡ Some (record { t = t; dx = dx; dy = dy }) →
-        (0 < t) × (t ≤ bound) × (nexts (w .rule) t (w .cells) ≡ moved dx dy (w .cells)) ×
-        ((s : ℕ) (a b : ℤ) → 0 < s → s < t → nexts (w .rule) s (w .cells) ≡ moved a b (w .cells) → ⊥)) ×
+    (0 < t) × (t ≤ bound) × (nexts (w .rule) t (w .cells) ≡ moved dx dy (w .cells)) ×
+    ((s : ℕ) (a b : ℤ) → 0 < s → s < t → nexts (w .rule) s (w .cells) ≡ moved a b (w .cells) → ⊥)) ×
     (period bound w ≡ None → (s : ℕ) (a b : ℤ) → 0 < s → s ≤ bound → nexts (w .rule) s (w .cells) ≡ moved a b (w .cells) → ⊥)

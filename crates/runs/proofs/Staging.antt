@@ -48,8 +48,9 @@ pub kept-beside : (m m′ : List ℕ) (s : Stretch) (to : ℕ) → Staged m s �
 kept-beside m m′ s to g a b =
     let r = g .room in let long = b .long in
     record {
-        long = long; same = beside-cells b s a (g .listed .few);
-        staged = record { listed = beside-listed b s a (g .listed); placed = g .placed; few = g .few; room = omega arith }
+      long = long;
+      same = beside-cells b s a (g .listed .few);
+      staged = record { listed = beside-listed b s a (g .listed); placed = g .placed; few = g .few; room = omega arith };
     }
 
 -- the list that was made
@@ -58,11 +59,15 @@ pub stage-made : (r : Rule) (m m′ : List ℕ) (last : Stretch) (to len : ℕ) 
 stage-made r m m′ last to len g p b few e near =
     let room = staged-room m last to g p in let long = b .long in let three = g .room in
     record {
-        placed = p; few = few; room = omega arith;
-        listed = record {
-            within = omega arith; few = omega arith;
-            ordered = subst (λ (cs : List Cell). T (inOrder cs)) (sym e) (next-order r (cellsIn m last));
-            near = subst (λ (cs : List Cell). farthest cs ≤ edge) (sym e) near }
+      placed = p;
+      few = few;
+      room = omega arith;
+      listed = record {
+        within = omega arith;
+        few = omega arith;
+        ordered = subst (λ (cs : List Cell). T (inOrder cs)) (sym e) (next-order r (cellsIn m last));
+        near = subst (λ (cs : List Cell). farthest cs ≤ edge) (sym e) near;
+      };
     }
 
 nexts-empty : (r : Rule) (n : ℕ) → nexts r n [] ≡ []
@@ -88,8 +93,9 @@ pub running-next : (r : Rule) (m m1 m2 : List ℕ) (home last then : Stretch) (d
 running-next r m m1 m2 home last then done g k s e =
     let z : suc done ≡ done + 1 = omega arith in
     record {
-        kept = kept-trans (g .kept) k; staged = s;
-        is = e ∙ ap (nextOf r) (g .is) ∙ sym (nexts-last r done (cellsIn m home)) ∙ ap (λ (u : ℕ). nexts r u (cellsIn m home)) z
+      kept = kept-trans (g .kept) k;
+      staged = s;
+      is = e ∙ ap (nextOf r) (g .is) ∙ sym (nexts-last r done (cellsIn m home)) ∙ ap (λ (u : ℕ). nexts r u (cellsIn m home)) z;
     }
 
 pub running-near : (r : Rule) → T (goodRule r) → (m m′ : List ℕ) (home last : Stretch) (done n : ℕ) → Running r m m′ home last done → T (reach n (cellsIn m home)) → done < n → farthest (nextOf r (cellsIn m′ last)) ≤ edge

@@ -82,7 +82,12 @@ pub fn run_list(words: &mut Words, rule: Rule, home: Stretch, n: u64) -> Result<
 }
 
 // The period of the list at home, up to the bound. The list stays where it is.
-pub fn period_list(words: &mut Words, rule: Rule, home: Stretch, bound: u16) -> Result<Option<Period>, Refusal>
+pub fn period_list(
+    words: &mut Words,
+    rule: Rule,
+    home: Stretch,
+    bound: u16,
+) -> Result<Option<Period>, Refusal>
     requires staged { ⌜ Staged (mem (now words)) home ⌝ }
     requires good { ⌜ T (goodRule (law rule)) ⌝ }
     ensures same { λ _. ⌜ Same (now (words .entry)) (now (words .exit)) ⌝ }
@@ -100,7 +105,11 @@ pub fn period_list(words: &mut Words, rule: Rule, home: Stretch, bound: u16) -> 
         };
         t += 1;
         if let Some(shift) = find_shift(words, home, then) {
-            return Ok(Some(Period { t, dx: shift.dx, dy: shift.dy }));
+            return Ok(Some(Period {
+                t,
+                dx: shift.dx,
+                dy: shift.dy,
+            }));
         }
         // Where nothing changes any more, nothing comes back.
         if same(words, last, then) {

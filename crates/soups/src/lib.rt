@@ -88,7 +88,13 @@ mod tests {
     }
 
     // The same random cells in the grid and on the plane.
-    fn sow<F: Field>(field: &mut F, mem: &mut [u64], corner: Corner, grid: &mut [u8], state: &mut u64) -> Result<(), Fail>
+    fn sow<F: Field>(
+        field: &mut F,
+        mem: &mut [u64],
+        corner: Corner,
+        grid: &mut [u8],
+        state: &mut u64,
+    ) -> Result<(), Fail>
         requires { ⌜ F·Field .good (now field) (now mem) ⌝ }
         ensures { λ _. ⌜ F·Field .good (now (field .exit)) (now (mem .exit)) ⌝ }
     {
@@ -96,13 +102,24 @@ mod tests {
             if random(state) % 3 == 0 {
                 let (x, y) = (40 + i % 16, 40 + i / 16);
                 set(grid, x, y);
-                check(field.put(mem, right_of(corner.x, x), right_of(corner.y, y), true).is_ok())?;
+                check(
+                    field
+                        .put(mem, right_of(corner.x, x), right_of(corner.y, y), true)
+                        .is_ok(),
+                )?;
             }
         }
         Ok(())
     }
 
-    fn compare_row<F: Field>(field: &F, mem: &[u64], corner: Corner, grid: &[u8], y: usize, row: &mut [u8]) -> Result<u64, Fail>
+    fn compare_row<F: Field>(
+        field: &F,
+        mem: &[u64],
+        corner: Corner,
+        grid: &[u8],
+        y: usize,
+        row: &mut [u8],
+    ) -> Result<u64, Fail>
         requires { ⌜ F·Field .good (now field) (now mem) ⌝ }
     {
         field.row(mem, corner.x, right_of(corner.y, y), row);
@@ -111,12 +128,21 @@ mod tests {
             let lives = cell(grid, x, y);
             count = count.wrapping_add(u64::from(lives));
             check_eq(row.get(x).copied().unwrap_or(2), lives)?;
-            check_eq(field.cell(mem, right_of(corner.x, x), right_of(corner.y, y)), lives == 1)?;
+            check_eq(
+                field.cell(mem, right_of(corner.x, x), right_of(corner.y, y)),
+                lives == 1,
+            )?;
         }
         Ok(count)
     }
 
-    fn compare_all<F: Field>(field: &F, mem: &[u64], corner: Corner, grid: &[u8], row: &mut [u8]) -> Result<(), Fail>
+    fn compare_all<F: Field>(
+        field: &F,
+        mem: &[u64],
+        corner: Corner,
+        grid: &[u8],
+        row: &mut [u8],
+    ) -> Result<(), Fail>
         requires { ⌜ F·Field .good (now field) (now mem) ⌝ }
     {
         let mut count = 0u64;
@@ -127,7 +153,15 @@ mod tests {
     }
 
     // A random soup under a random rule, some generations on.
-    fn soup<F: Field>(field: &mut F, mem: &mut [u64], corner: Corner, grid: &mut [u8], next: &mut [u8], row: &mut [u8], state: &mut u64) -> Result<(), Fail>
+    fn soup<F: Field>(
+        field: &mut F,
+        mem: &mut [u64],
+        corner: Corner,
+        grid: &mut [u8],
+        next: &mut [u8],
+        row: &mut [u8],
+        state: &mut u64,
+    ) -> Result<(), Fail>
         requires { ⌜ F·Field .good (now field) (now mem) ⌝ }
     {
         let born = (random(state) % 256 * 2) as u16;
@@ -143,7 +177,14 @@ mod tests {
         compare_all(field, mem, corner, grid, row)
     }
 
-    fn soup_by_lists(mem: &mut [u64], corner: Corner, grid: &mut [u8], next: &mut [u8], row: &mut [u8], state: &mut u64) -> Result<(), Fail> {
+    fn soup_by_lists(
+        mem: &mut [u64],
+        corner: Corner,
+        grid: &mut [u8],
+        next: &mut [u8],
+        row: &mut [u8],
+        state: &mut u64,
+    ) -> Result<(), Fail> {
         check(mem.len() == 262144)?;
         let mut field = ListPlane::open(mem);
         soup(&mut field, mem, corner, grid, next, row, state)
@@ -158,8 +199,18 @@ mod tests {
             let mut grid = vec![in heap; 0u8; SIDE * SIDE]?;
             let mut next = vec![in heap; 0u8; SIDE * SIDE]?;
             let mut row = vec![in heap; 0u8; SIDE]?;
-            let corner = Corner { x: coordinate(turn), y: coordinate(turn / 3) };
-            soup_by_lists(words.as_mut_slice(), corner, grid.as_mut_slice(), next.as_mut_slice(), row.as_mut_slice(), &mut state)?;
+            let corner = Corner {
+                x: coordinate(turn),
+                y: coordinate(turn / 3),
+            };
+            soup_by_lists(
+                words.as_mut_slice(),
+                corner,
+                grid.as_mut_slice(),
+                next.as_mut_slice(),
+                row.as_mut_slice(),
+                &mut state,
+            )?;
         }
         Ok(())
     }

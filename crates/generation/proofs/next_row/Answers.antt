@@ -12,9 +12,13 @@ use Rattle.generation.proofs.next_row.Needs as need
 
 pub loop-rule-holds : need.loop-rule-holds
 loop-rule-holds c =
-    let w = c .start-sweep .ensures .window in let e = w .second in let f = c .start-sweep .ensures .row in
-    (refl, beside-refl (c .args .to) (mem (c .args .words .now)), w, refl,
-     progress-begin (law (c .args .rule)) (mem (c .args .words .now)) (c .args .from) (c .args .to) (c .args .out) (c .args .rows .top + 1) (c .start-sweep .result) (c .pre .progress) (c .start-sweep .ensures .x) (omega arith))
+    let w = c .start-sweep .ensures .window in let e = w .second in let f = c .start-sweep .ensures .row in (
+      refl,
+      beside-refl (c .args .to) (mem (c .args .words .now)),
+      w,
+      refl,
+      progress-begin (law (c .args .rule)) (mem (c .args .words .now)) (c .args .from) (c .args .to) (c .args .out) (c .args .rows .top + 1) (c .start-sweep .result) (c .pre .progress) (c .start-sweep .ensures .x) (omega arith),
+    )
 
 pub turn-requires : need.turn-requires
 turn-requires c κs =
@@ -25,9 +29,10 @@ pub returns-in-Break-n : need.returns-in-Break-n
 returns-in-Break-n c =
     let i = c .loop-rule .inv in let e = c .in-Break-n .ensures tt in
     record {
-        same = e .same ∙ i .0; beside = beside-trans (i .1) (e .beside);
-        made = subst (λ (o : Option ℕ). RowMade (law (c .args .rule)) (mem (c .args .words .now)) (mem (c .turn .last .words)) (c .args .from) (c .args .to) (c .args .rows .top + 2) o) (sym (c .from-residual .ensures))
-            (full-moves (i .1) (c .args .from) (c .pre .progress .apart) (c .pre .progress .listed .few) (law (c .args .rule)) (e .turned))
+      same = e .same ∙ i .0;
+      beside = beside-trans (i .1) (e .beside);
+      made = subst (λ (o : Option ℕ). RowMade (law (c .args .rule)) (mem (c .args .words .now)) (mem (c .turn .last .words)) (c .args .from) (c .args .to) (c .args .rows .top + 2) o) (sym (c .from-residual .ensures))
+          (full-moves (i .1) (c .args .from) (c .pre .progress .apart) (c .pre .progress .listed .few) (law (c .args .rule)) (e .turned));
     }
 
 pub loop-rule-less : need.loop-rule-less
@@ -46,6 +51,7 @@ returns c =
     let i = c .loop-rule .inv in let m = mem (c .loop-rule .words) in let k = c .loop-rule-test .ensures tt m (c .args .from) (i .4 .listed) (i .2) in
     let f = c .start-sweep .ensures .row in let i3 = i .3 in
     record {
-        same = i .0; beside = i .1;
-        made = progress-row (law (c .args .rule)) m (c .args .from) (c .args .to) (c .loop-rule .n) (c .args .rows .top + 2) (c .loop-rule .sweep) (i .2) (i .4) k (omega (arith, i3, f))
+      same = i .0;
+      beside = i .1;
+      made = progress-row (law (c .args .rule)) m (c .args .from) (c .args .to) (c .loop-rule .n) (c .args .rows .top + 2) (c .loop-rule .sweep) (i .2) (i .4) k (omega (arith, i3, f));
     }

@@ -11,6 +11,6 @@ pub returns : need.returns
 unfolding tab
 returns c =
     record {
-        good = record { staged = empty-staged (c .args .mem .now) (c .pre); rule = c .life .ensures .good };
-        world = ap (λ (r : Rule). worldOf (law r) []) (c .life .ensures .is)
+      good = record { staged = empty-staged (c .args .mem .now) (c .pre); rule = c .life .ensures .good };
+      world = ap (λ (r : Rule). worldOf (law r) []) (c .life .ensures .is);
     }
