@@ -1,64 +1,62 @@
-// A plain Life on a dense grid, written on its own, to hold the plane on lists to.
-
-// The grid has so many columns and rows; what leaves it is lost, so patterns are kept away from its rim.
-pub const SIDE: usize = 96;
-
-// Cells by rows, one byte each.
-pub fn cell(grid: &[u8], x: usize, y: usize) -> u8 {
-    if x < SIDE && y < SIDE {
-        grid.get(y * SIDE + x).copied().unwrap_or(0)
-    } else {
-        0
-    }
-}
-
-// How many of the eight neighbours live. At the rim a coordinate wraps to a number that is no column.
-fn neighbours(grid: &[u8], x: usize, y: usize) -> u32 {
-    let (left, right) = (x.wrapping_sub(1), x.wrapping_add(1));
-    let (up, down) = (y.wrapping_sub(1), y.wrapping_add(1));
-    let mut n = 0u32;
-    for row in [up, y, down] {
-        for column in [left, x, right] {
-            if (column != x || row != y) && cell(grid, column, row) == 1 {
-                n = n.wrapping_add(1);
-            }
-        }
-    }
-    n
-}
-
-// One generation by the sets of a rule.
-pub fn generation(born: u16, stays: u16, grid: &[u8], next: &mut [u8]) {
-    for y in 0..SIDE {
-        for x in 0..SIDE {
-            let set = if cell(grid, x, y) == 1 { stays } else { born };
-            let n = neighbours(grid, x, y);
-            let lives = n < 9 && (set >> n) & 1 == 1;
-            let i = y * SIDE + x;
-            if i < next.len() {
-                next[i] = if lives { 1 } else { 0 };
-            }
-        }
-    }
-}
-
-// Numbers that look random (xorshift).
-pub fn random(state: &mut u64) -> u64 {
-    let mut x = *state;
-    x ^= x << 13;
-    x ^= x >> 7;
-    x ^= x << 17;
-    *state = x;
-    x
-}
-
+// The plane on lists held to a plain Life on a dense grid, written on its own: random soups under random rules.
 #[cfg(test)]
 mod tests {
-    use super::*;
     use calls::Field;
     use listplane::ListPlane;
     use listplane::ListPlaneField;
     use std::test::*;
+
+    // The grid has so many columns and rows; what leaves it is lost, so patterns are kept away from its rim.
+    const SIDE: usize = 96;
+
+    // Cells by rows, one byte each.
+    fn cell(grid: &[u8], x: usize, y: usize) -> u8 {
+        if x < SIDE && y < SIDE {
+            grid.get(y * SIDE + x).copied().unwrap_or(0)
+        } else {
+            0
+        }
+    }
+
+    // How many of the eight neighbours live. At the rim a coordinate wraps to a number that is no column.
+    fn neighbours(grid: &[u8], x: usize, y: usize) -> u32 {
+        let (left, right) = (x.wrapping_sub(1), x.wrapping_add(1));
+        let (up, down) = (y.wrapping_sub(1), y.wrapping_add(1));
+        let mut n = 0u32;
+        for row in [up, y, down] {
+            for column in [left, x, right] {
+                if (column != x || row != y) && cell(grid, column, row) == 1 {
+                    n = n.wrapping_add(1);
+                }
+            }
+        }
+        n
+    }
+
+    // One generation by the sets of a rule.
+    fn generation(born: u16, stays: u16, grid: &[u8], next: &mut [u8]) {
+        for y in 0..SIDE {
+            for x in 0..SIDE {
+                let set = if cell(grid, x, y) == 1 { stays } else { born };
+                let n = neighbours(grid, x, y);
+                let lives = n < 9 && (set >> n) & 1 == 1;
+                let i = y * SIDE + x;
+                if i < next.len() {
+                    next[i] = if lives { 1 } else { 0 };
+                }
+            }
+        }
+    }
+
+    // Numbers that look random (xorshift).
+    fn random(state: &mut u64) -> u64 {
+        let mut x = *state;
+        x ^= x << 13;
+        x ^= x >> 7;
+        x ^= x << 17;
+        *state = x;
+        x
+    }
 
     // Where the grid's upper left corner lies on the plane.
     #[derive(Clone, Copy)]
