@@ -71,6 +71,7 @@ fn count<F: Field>(field: &F, mem: &[u64], out: &mut [u8]) -> usize
     number(out, 0, field.count(mem))
 }
 
+// The plane gives the cells as 0 and 1, in the place where their characters are to stand.
 fn row<F: Field>(field: &F, mem: &[u64], x: i64, y: i64, n: u32, out: &mut [u8]) -> usize
     requires good { ⌜ F·Field .good (now field) (now mem) ⌝ }
     requires room { ⌜ n ≤ length (now out) ⌝ }

@@ -1,6 +1,7 @@
 // Reads commands from standard input, a line each, and prints the answer to each.
-ghost use Prim.Native.Nat.{_≤_};
+ghost use Prim.Native.Nat.{_<_};
 ghost use lib.ListN.{length};
+ghost use Rattle.commands.specs.Says.{answerBytes};
 use calls::Field;
 use commands::ANSWER_BYTES;
 use commands::answer;
@@ -23,7 +24,7 @@ fn converse<F: Field>(
     out: &mut [u8],
 ) -> io::Result<()>
     requires good { ⌜ F·Field .good (now field) (now mem) ⌝ }
-    requires room { ⌜ 1048705 ≤ length (now out) ⌝ }
+    requires room { ⌜ answerBytes < length (now out) ⌝ }
 {
     let mut input = BufReader::new(rt.stdin());
     let mut line = Vec::new(rt.alloc());

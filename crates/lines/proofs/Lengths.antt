@@ -21,7 +21,7 @@ use Rattle.lines.specs.declared.Command.{Command}
 use Rattle.lines.specs.declared.Command.the-variants.{Rule, Put, Run, Cell, Count, Row, Bounds, Period}
 use Rattle.lines.specs.Numerals.{into, naturalOf, atMost, placeOf, flagOf}
 use Rattle.lines.specs.Splits.{Word, isText, wordsOf, first, rest}
-use Rattle.lines.specs.Commands.{next, upTo, last, putOf, runOf, cellOf, rowOf, periodOf, plainOf, named, ruleWords, spoken, commandOf}
+use Rattle.lines.specs.Commands.{next, upTo, last, putOf, runOf, cellOf, rowOf, periodOf, plainOf, named, ruleWords, spoken}
 use Rattle.lines.specs.Promise.{RowsShort}
 
 abbrev Short : Command → Type 0

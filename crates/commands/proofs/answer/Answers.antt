@@ -1,4 +1,4 @@
-use mathlib.Core.Path.{_≡_, sym, _∙_, ap}
+use mathlib.Core.Path.{sym, _∙_, ap}
 use Rattle.std.specs.declared.result.Result.the-variants.{Ok}
 use Rattle.lines.proofs.Lengths.{rows-short}
 use Rattle.commands.proofs.answer.Needs as need

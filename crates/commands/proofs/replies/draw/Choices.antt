@@ -1,6 +1,6 @@
 use mathlib.Core.Path.{_≡_}
 use Prim.Native.Nat.{ℕ, _+_, _<_, _≤_}
-use lib.ListN.{length, getD}
+use lib.ListN.{getD}
 use Rattle.commands.proofs.replies.draw.Given as given
 
 abbrev pub Inv-loop-i : given.InvT-loop-i
