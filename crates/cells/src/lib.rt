@@ -10,13 +10,11 @@ ghost use Rattle.model.specs.Cells.{lives, put};
 ghost use Rattle.lent.specs.Mem.{mem, seen, Same};
 ghost use Rattle.lent.specs.Stretches.{Listed, Beside, cellsIn, entry, withEntry, rowAt, colAt, roomCells, roomWords};
 ghost use Rattle.cells.specs.Places.{Earlier, Later, Place, Holds, Raised, Lowered, wordCell, longer, shorter};
+use lent::EDGE;
 use lent::Stretch;
 use lent::View;
 use lent::Words;
 use lent::to_word;
-
-// No cell may lie farther out than this.
-const EDGE: u64 = 1 << 60;
 
 pub fn is_far(x: i64, y: i64) -> bool
     ensures { λ r. ⌜ r ≡ far x y ⌝ }

@@ -11,14 +11,12 @@ ghost use Rattle.generation.specs.Scan.{Window, Ready, RowsAt, Progress, Turne
 
 mod scan;
 
+use lent::MOST_CELLS;
 use lent::Stretch;
 use lent::Words;
 use rules::Rule;
 use scan::Rows;
 use scan::Sweep;
-
-// So many cells are always held.
-const MOST_CELLS: usize = 4096;
 
 // One column: its cell is appended to the list at `to`, which has `out` cells, if it lives. None where that list is full.
 fn turn(

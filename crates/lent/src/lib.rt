@@ -8,6 +8,15 @@ ghost use lib.ListN.{length, getD, set};
 ghost use Rattle.lent.specs.Mem.{mem, seen, Same};
 ghost use Rattle.lent.specs.Stretches.{toZ, withEntry, roomWords, roomCells};
 
+// No cell may lie farther out than this.
+pub const EDGE: u64 = 1 << 60;
+
+// So many cells are always held.
+pub const MOST_CELLS: usize = 4096;
+
+// The words of a place for a list, which has room for one cell more.
+pub const PLACE_WORDS: usize = 2 * (MOST_CELLS + 1);
+
 // The memory that a call is lent.
 #[derive(Drop)]
 pub struct Words<'a> {

@@ -18,6 +18,7 @@ use cells::insert;
 use cells::is_far;
 use cells::lives_at;
 use cells::remove;
+use lent::MOST_CELLS;
 use lent::Stretch;
 use lent::View;
 use lent::Words;
@@ -33,9 +34,6 @@ use runs::run_list;
 const FEWEST_WORDS: usize = 1 << 18;
 
 const MOST_WORDS: usize = 1 << 28;
-
-// So many cells are always held.
-const MOST_CELLS: usize = 4096;
 
 #[derive(Clone, Copy)]
 pub struct ListPlane {

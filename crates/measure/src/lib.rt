@@ -12,6 +12,7 @@ ghost use Rattle.lent.specs.Stretches.{Listed, cellsIn, entry, rowAt, colAt};
 ghost use Rattle.measure.specs.Shifts.{Along, firstX, firstY, shiftPeriod};
 ghost use Rattle.measure.specs.Sizes.{outness};
 ghost use Rattle.measure.specs.Frames.{boxed, boxFrom, widened, Inside};
+use lent::EDGE;
 use lent::Stretch;
 use lent::Words;
 use lent::to_coordinate;
@@ -103,9 +104,6 @@ pub fn find_shift(words: &Words, a: Stretch, b: Stretch) -> Option<Shift>
     }
     Some(first_shift(words, a, b))
 }
-
-// No cell may lie farther out than this.
-const EDGE: u64 = 1 << 60;
 
 // How far out the i-th cell lies: its larger coordinate, without sign.
 fn distance(words: &Words, s: Stretch, i: usize) -> u64

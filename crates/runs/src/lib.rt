@@ -11,6 +11,7 @@ ghost use Rattle.lent.specs.Stretches.{Apart, cellsIn};
 ghost use Rattle.rules.specs.Laws.{law};
 ghost use Rattle.runs.specs.Stages.{Placed, Staged, Kept, Stepped, ListRan, worldIn};
 use generation::next;
+use lent::PLACE_WORDS;
 use lent::Stretch;
 use lent::Words;
 use measure::find_shift;
@@ -19,9 +20,6 @@ use measure::same;
 use model::Period;
 use model::Refusal;
 use rules::Rule;
-
-// The words of a place for a list.
-pub const PLACE_WORDS: usize = 2 * 4097;
 
 // A place for a list other than these two.
 fn free_place(a: usize, b: usize) -> usize
