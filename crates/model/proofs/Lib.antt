@@ -5,3 +5,10 @@ pub mod Put
 pub mod Reach
 pub mod Periods
 pub mod Moves
+pub mod Squares
+pub mod Leaps
+pub mod Alike
+pub mod ForEver
+pub mod Shapes
+pub mod Padded
+pub mod Runs

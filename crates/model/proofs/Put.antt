@@ -6,7 +6,9 @@ use mathlib.Core.Logic.{_⊎_, inl, inr}
 use lib.Dec.{T, T-not}
 use lib.IntN.{ℤ}
 use Rattle.model.specs.Cells.{Cell, cellAt, sameCell, before, inOrder, lives, put}
+use Rattle.model.specs.Promise.{ListsRight}
 use Rattle.model.proofs.Order.{bool-same, if-so, same-cell-out, same-cell-in, before-trans, before-irrefl, before-tri, lives-out, lives-head, lives-tail, lives-none, lives-cell, order-tail, order-after, order-in}
+use Rattle.model.proofs.Lists.{next-order, next-lives, nexts-order, nexts-lives}
 
 -- ---- a cell that is to live
 put-in : (c : Cell) (cs : List Cell) (x y : ℤ) → T (lives x y (put c true cs)) → (cellAt x y ≡ c) ⊎ T (lives x y cs)
@@ -164,3 +166,7 @@ put-lives cs o c false x y =
     (λ s. bool-same (lives x y (put c false cs)) (lives x y cs)
     (cut-in c cs x y)
     (cut-keeps c cs x y (λ e. T-not (sameCell c (cellAt x y)) s (same-cell-in c (cellAt x y) e))))
+
+pub lists-right : ListsRight
+lists-right r g cs o =
+    (next-order r cs, next-lives r g cs, λ n. (nexts-order r n cs o, nexts-lives r g n cs), λ a b. (put-order a b cs o, put-lives cs o a b))

@@ -7,13 +7,13 @@ use Prim.Native.Nat.{ℕ, zero, suc, _+_, _≤_}
 use native.Mathlib.Omega.{arith}
 use borrow.Author.Differences.{ints, up, down}
 use lib.Dec.{T, ltb}
-use lib.IntN.{ℤ, pos, negsuc, negℤ, _+ℤ_}
+use lib.IntN.{ℤ, pos, negsuc}
 use Rattle.model.specs.Planes.{Plane, always, step, steps}
 use Rattle.model.specs.Rules.{Rule, goodRule, life}
 use Rattle.model.specs.Cells.{Cell, lives, planeOf}
 use Rattle.model.specs.Lists.{nexts}
 use Rattle.model.specs.World.{size, farthest}
-use Rattle.model.specs.Promise.{ReachRight}
+use Rattle.model.specs.Promise.{ReachRight, Near}
 use Rattle.model.proofs.Order.{lives-out, lives-head, lives-tail, lives-none}
 use Rattle.model.proofs.Lists.{By, comes-of, nexts-lives}
 
@@ -46,10 +46,6 @@ far-in [] n f = omega arith
 far-in (c ∷ cs) n f =
     let h = f (c .x) (c .y) (lives-head c cs) in
     far-least (size (c .x)) (size (c .y)) (farthest cs) n (h .0) (h .1) (far-in cs n (λ x y t. f x y (lives-tail x y c cs t)))
-
--- u lies at most n from x
-abbrev pub Near : ℕ → ℤ → ℤ → Type 0
-Near n x u = size (u +ℤ negℤ x) ≤ n
 
 pub size-is : (z : ℤ) → (size z ≤ up z + down z) × (up z ≤ size z + down z) × (down z ≤ size z + up z)
 size-is (pos n) = (omega arith, omega arith, omega arith)

@@ -3,6 +3,7 @@ pub mod Rules
 pub mod Cells
 pub mod Lists
 pub mod World
+pub mod Squares
 pub mod Answers
 pub mod Promise
 pub mod Rows

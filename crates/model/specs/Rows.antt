@@ -6,10 +6,12 @@ use Prim.Native.Nat.{ℕ, _+_, _^_}
 use lib.ListN.{length}
 use lib.IntN.{ℤ, pos, negsuc}
 use Rattle.std.specs.declared.option.Option.the-variants.{Some, None}
-use Rattle.model.specs.Rules.{Rule, goodRule, ruleOf}
+use Rattle.model.specs.Planes.{always}
+use Rattle.model.specs.Rules.{Rule, goodRule, ruleOf, life}
 use Rattle.model.specs.Cells.{Cell, cellAt, lives, boundsOf}
 use Rattle.model.specs.Lists.{nexts}
 use Rattle.model.specs.World.{worldOf, far, fits, period, capped}
+use Rattle.model.specs.Squares.{Square, Leaf, Four, leap}
 
 abbrev pub place : ℕ → ℕ → Cell
 place x y = cellAt (pos x) (pos y)
@@ -34,12 +36,25 @@ RowA =
 abbrev pub glider : List Cell
 glider = place 1 0 ∷ place 2 1 ∷ place 0 2 ∷ place 1 2 ∷ place 2 2 ∷ []
 
+-- five cells that wander: after 4,000 generations the first of them is at 1001, 1000
 abbrev pub RowB : Type 0
-RowB = period 4 (worldOf b3s23 glider) ≡ Some (record { t = 4; dx = pos 1; dy = pos 1 })
+RowB =
+    (period 4 (worldOf b3s23 glider) ≡ Some (record { t = 4; dx = pos 1; dy = pos 1 })) × (lives (pos 1001) (pos 1000) (nexts b3s23 4000 glider) ≡ true)
 
 -- the empty plane
 abbrev pub RowC : Type 0
 RowC = (period 9 (worldOf b3s23 []) ≡ Some (record { t = 1; dx = pos 0; dy = pos 0 })) × (capped (length {A = Cell} []) ≡ 0) × (boundsOf [] ≡ None)
+
+abbrev pub twoByTwo : (a b c d : Bool) → Square Bool
+twoByTwo a b c d = Four (Leaf a) (Leaf b) (Leaf c) (Leaf d)
+
+-- squares of side 4: all sixteen cells living, and only the four in the middle
+abbrev pub RowD : Type 0
+RowD =
+    (let full = twoByTwo true true true true in
+    leap (always (life b3s23)) 0 (Four full full full full) ≡ twoByTwo false false false false) ×
+    (leap (always (life b3s23)) 0 (Four (twoByTwo false false false true) (twoByTwo false false true false) (twoByTwo false true false false) (twoByTwo true false false false)) ≡
+    twoByTwo true true true true)
 
 -- birth with one, and nobody stays, from one cell
 abbrev pub RowE : Type 0
@@ -55,4 +70,4 @@ abbrev pub RowG : Type 0
 RowG = (far (pos (2 ^ 60)) (pos 0) ≡ false) × (fits 1 (worldOf b3s23 (place (2 ^ 60) 0 ∷ [])) ≡ false) × (far (pos (2 ^ 60 + 1)) (pos 0) ≡ true)
 
 abbrev pub RowsHold : Type 0
-RowsHold = RowA × (RowB × (RowC × (RowE × (RowF × RowG))))
+RowsHold = RowA × (RowB × (RowC × (RowD × (RowE × (RowF × RowG)))))

@@ -1,7 +1,7 @@
 // What a cell, a rule, a generation, a period and an answer are, and what holds of them. The definitions stand in specs/.
 ghost use mathlib.Core.Path.{_≡_};
 ghost use Rattle.model.specs.Answers.{numberOf};
-ghost use Rattle.model.specs.Promise.{ListsRight, ListsSame, Adds, ReachRight, PeriodRight, PlanesAdd};
+ghost use Rattle.model.specs.Promise.{ListsRight, ListsSame, Adds, ReachRight, PeriodRight, PlanesAdd, AnyRules, Main, SquaresSame, BuildRight, PaddedRight, CellsRight, PaddedCells, RunRight, RunPadded};
 ghost use Rattle.model.specs.Rows.{RowsHold};
 
 // The box around the living cells: the columns and rows of its outermost cells.
@@ -77,6 +77,34 @@ pub fn periods_stand() -> u8
 // S is any type of states.
 pub fn generations_stand<S>() -> u8
     ensures { λ _. ⌜ Adds × PlanesAdd S ⌝ }
+{
+    0
+}
+
+// Leaps, speed and symmetry, over any states and any local rules.
+pub fn leaps_stand<S>() -> u8
+    ensures { λ _. ⌜ AnyRules S ⌝ }
+{
+    0
+}
+
+// The main promise.
+pub fn whole_stands() -> u8
+    ensures { λ _. ⌜ Main ⌝ }
+{
+    0
+}
+
+// Squares are told by their cells, and padding changes nothing.
+pub fn squares_stand<S>() -> u8
+    ensures { λ _. ⌜ SquaresSame S × BuildRight S × PaddedRight S ⌝ }
+{
+    0
+}
+
+// Lists of the living cells of squares, and runs of them by leaps.
+pub fn runs_stand() -> u8
+    ensures { λ _. ⌜ CellsRight × PaddedCells × RunRight × RunPadded ⌝ }
 {
     0
 }

@@ -1,0 +1,7 @@
+pub mod BitLaws
+pub mod CellLaws
+pub mod Joins
+pub mod Plain
+pub mod Showing
+pub mod AsSquares
+pub mod Adding
