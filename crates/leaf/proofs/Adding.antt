@@ -4,11 +4,10 @@ use mathlib.Core.Bool.{Bool, true, false, cond, _&&_, _||_, not}
 use Prim.Native.Nat.{ℕ, _+_, _-_, _*_, _/_, _%_, _^_, _<_, _≤_}
 use native.Mathlib.Omega.{arith}
 use lib.Bits.{bitAnd, bitOr, bitXor}
-use lib.Dec.{T}
 use Rattle.model.specs.Rules.{Rule as Law, asOne, tally, becomes}
 use Rattle.std.proofs.shelf.Ways.{tells}
-use Rattle.leaf.specs.Words.{bit, digit, cellIn, inner, neighboursIn, nextIn}
-use Rattle.leaf.proofs.BitLaws.{bit-and, bit-or, bit-xor, bit-not, bit-above, bit-shr, bit-shl, either, and-on, and-off, mask-cells}
+use Rattle.leaf.specs.Words.{bit, digit, cellIn, inner, neighboursIn}
+use Rattle.leaf.proofs.BitLaws.{bit-and, bit-or, bit-xor, bit-not, bit-above, bit-shr, bit-shl, either, mask-cells}
 
 keep : (p : Bool) → (p && true) ≡ p
 keep true = refl
@@ -43,8 +42,8 @@ three-added a b c k =
     let x = bit-xor a b k in
     let low = bit-xor (bitXor a b) c k ∙ ap (λ (t : Bool). either t (bit c k)) x in
     let high =
-      bit-or (bitAnd a b) (bitAnd (bitXor a b) c) k ∙
-      (λ i. bit-and a b k i || (bit-and (bitXor a b) c k ∙ ap (λ (t : Bool). t && bit c k) x) i) in
+    bit-or (bitAnd a b) (bitAnd (bitXor a b) c) k ∙
+    (λ i. bit-and a b k i || (bit-and (bitXor a b) c k ∙ ap (λ (t : Bool). t && bit c k) x) i) in
     full-sum (bit a k) (bit b k) (bit c k) ∙ (λ i. asOne (sym low i) + 2 * asOne (sym high i))
 
 pub chosen : (w y n k : ℕ) → bit (bitXor n (bitAnd w (bitXor y n))) k ≡ cond (bit w k) (bit y k) (bit n k)
@@ -119,7 +118,7 @@ fate-words r w n born stay b s h eb es fb fs k l =
     split false = refl
 
 -- the bits of a count choose what the count gives
-pub by-count : (g : ℕ → Bool) (n : ℕ) (o t f e : Bool) → n ≤ 8 → n ≡ asOne o + 2 * asOne t + 4 * asOne f + 8 * asOne e →
+by-count : (g : ℕ → Bool) (n : ℕ) (o t f e : Bool) → n ≤ 8 → n ≡ asOne o + 2 * asOne t + 4 * asOne f + 8 * asOne e →
     cond e (g 8) (cond f (cond t (cond o (g 7) (g 6)) (cond o (g 5) (g 4))) (cond t (cond o (g 3) (g 2)) (cond o (g 1) (g 0)))) ≡ g n
 by-count g n false false false false h s = ap g (omega arith)
 by-count g n true false false false h s = ap g (omega arith)
@@ -138,6 +137,17 @@ by-count g n true false true true h s = absurd (omega arith)
 by-count g n false true true true h s = absurd (omega arith)
 by-count g n true true true true h s = absurd (omega arith)
 
+-- the same, as the words are chosen in steps
+pub in-steps : (g : ℕ → Bool) (n : ℕ) (o t f e f0 f1 f2 f3 f4 f5 f6 f7 f8 zero two four six low high below r : Bool) → n ≤ 8 →
+    n ≡ asOne o + 2 * asOne t + 4 * asOne f + 8 * asOne e →
+    f0 ≡ g 0 → f1 ≡ g 1 → f2 ≡ g 2 → f3 ≡ g 3 → f4 ≡ g 4 → f5 ≡ g 5 → f6 ≡ g 6 → f7 ≡ g 7 → f8 ≡ g 8 →
+    zero ≡ cond o f1 f0 → two ≡ cond o f3 f2 → four ≡ cond o f5 f4 → six ≡ cond o f7 f6 →
+    low ≡ cond t two zero → high ≡ cond t six four → below ≡ cond f high low → r ≡ cond e f8 below → r ≡ g n
+in-steps g n o t f e f0 f1 f2 f3 f4 f5 f6 f7 f8 zero two four six low high below r h s e0 e1 e2 e3 e4 e5 e6 e7 e8 z w q x l u b k =
+    let lower : low ≡ cond t (cond o (g 3) (g 2)) (cond o (g 1) (g 0)) = l ∙ (λ i. cond t ((w ∙ (λ j. cond o (e3 j) (e2 j))) i) ((z ∙ (λ j. cond o (e1 j) (e0 j))) i)) in
+    let upper : high ≡ cond t (cond o (g 7) (g 6)) (cond o (g 5) (g 4)) = u ∙ (λ i. cond t ((x ∙ (λ j. cond o (e7 j) (e6 j))) i) ((q ∙ (λ j. cond o (e5 j) (e4 j))) i)) in
+    k ∙ (λ i. cond e (e8 i) ((b ∙ (λ j. cond f (upper j) (lower j))) i)) ∙ by-count g n o t f e h s
+
 one-most : (b : Bool) → asOne b ≤ 1
 one-most true = omega arith
 one-most false = omega arith
@@ -151,7 +161,7 @@ tally-most a b c d e f g h =
 pub neighbours-most : (w x y : ℕ) → neighboursIn w x y ≤ 8
 neighbours-most w x y =
     tally-most (cellIn w (x - 1) (y - 1)) (cellIn w x (y - 1)) (cellIn w (x + 1) (y - 1)) (cellIn w (x - 1) y) (cellIn w (x + 1) y)
-      (cellIn w (x - 1) (y + 1)) (cellIn w x (y + 1)) (cellIn w (x + 1) (y + 1))
+    (cellIn w (x - 1) (y + 1)) (cellIn w x (y + 1)) (cellIn w (x + 1) (y + 1))
 
 inner-bits : (x y : ℕ) → x < 8 → y < 8 → bit 0x007e7e7e7e7e7e00 (8 * y + x) ≡ inner x y
 unfolding bit

@@ -8,7 +8,7 @@ use lib.Dec.{T}
 use lib.IntN.{ℤ, pos, _+ℤ_}
 use Rattle.model.specs.Planes.{Plane, always, steps}
 use Rattle.model.specs.Rules.{Rule as Law, life}
-use Rattle.model.specs.Squares.{Square, Four, build, leapBy, level, stateAt, lying} 
+use Rattle.model.specs.Squares.{Square, Four, build, leapBy, level, stateAt, lying}
 use Rattle.model.specs.Squares as squares
 use Rattle.model.proofs.Squares.{state-nw, state-ne, state-sw, state-se, level-four}
 use Rattle.model.proofs.Leaps.{leap-by-right}
@@ -31,11 +31,11 @@ shows-words : (nw ne sw se : ℕ) (p : Plane Bool) → squares.Shows 4 (fourWord
 shows-words nw ne sw se p h =
     let a = wordSquare nw in let b = wordSquare ne in let c = wordSquare sw in let d = wordSquare se in
     record {
-        upper-left = λ x y l m. h x y (omega arith) (omega arith) ∙ state-nw 3 a b c d x y l m ∙ word-cell nw x y l m;
-        upper-right = λ x y l m. let e : x + 8 ≡ 8 + x = omega arith in ap (λ (u : ℕ). p (pos u) (pos y)) e ∙ h (8 + x) y (omega arith) (omega arith) ∙ state-ne 3 a b c d x y m ∙ word-cell ne x y l m;
-        lower-left = λ x y l m. let e : y + 8 ≡ 8 + y = omega arith in ap (λ (u : ℕ). p (pos x) (pos u)) e ∙ h x (8 + y) (omega arith) (omega arith) ∙ state-sw 3 a b c d x y l ∙ word-cell sw x y l m;
-        lower-right = λ x y l m. let e : x + 8 ≡ 8 + x = omega arith in let f : y + 8 ≡ 8 + y = omega arith in
-            (λ i. p (pos (e i)) (pos (f i))) ∙ h (8 + x) (8 + y) (omega arith) (omega arith) ∙ state-se 3 a b c d x y ∙ word-cell se x y l m
+      upper-left = λ x y l m. h x y (omega arith) (omega arith) ∙ state-nw 3 a b c d x y l m ∙ word-cell nw x y l m;
+      upper-right = λ x y l m. let e : x + 8 ≡ 8 + x = omega arith in ap (λ (u : ℕ). p (pos u) (pos y)) e ∙ h (8 + x) y (omega arith) (omega arith) ∙ state-ne 3 a b c d x y m ∙ word-cell ne x y l m;
+      lower-left = λ x y l m. let e : y + 8 ≡ 8 + y = omega arith in ap (λ (u : ℕ). p (pos x) (pos u)) e ∙ h x (8 + y) (omega arith) (omega arith) ∙ state-sw 3 a b c d x y l ∙ word-cell sw x y l m;
+      lower-right = λ x y l m. let e : x + 8 ≡ 8 + x = omega arith in let f : y + 8 ≡ 8 + y = omega arith in
+          (λ i. p (pos (e i)) (pos (f i))) ∙ h (8 + x) (8 + y) (omega arith) (omega arith) ∙ state-se 3 a b c d x y ∙ word-cell se x y l m;
     }
 
 -- some plane shows a square: the square itself with nothing around it
@@ -51,5 +51,5 @@ is-leap law nw ne sw se n r h j l e =
     let m = leap-by-right σ j 2 s l (four-level nw ne sw se) in
     squares-same 3 (wordSquare r) (leapBy σ j 2 s) (word-level r) (m .0)
     (λ x y a b.
-        let ex : x + 4 ≡ 4 + x = omega arith in let ey : y + 4 ≡ 4 + y = omega arith in
-        word-cell r x y a b ∙ h p (shows-words nw ne sw se p q) x y a b ∙ (λ i. steps σ (e i) p (pos (ex i)) (pos (ey i))) ∙ m .1 p q x y a b)
+    let ex : x + 4 ≡ 4 + x = omega arith in let ey : y + 4 ≡ 4 + y = omega arith in
+    word-cell r x y a b ∙ h p (shows-words nw ne sw se p q) x y a b ∙ (λ i. steps σ (e i) p (pos (ex i)) (pos (ey i))) ∙ m .1 p q x y a b)

@@ -2,15 +2,15 @@
 use mathlib.Core.Path.{_≡_, refl, sym, ap, subst, _∙_}
 use mathlib.Core.Bool.{Bool, true, false, cond, _&&_, _||_, not}
 use Prim.Native.Nat.{ℕ, zero, suc, _+_, _-_, _*_, _/_, _%_, _^_, _<_, _≤_}
-use native.Mathlib.Nat.{mod-lt, add-comm, mul-comm, mul-assoc, div-eq-of-lt, mod-eq-of-lt, zero-lt-suc}
+use native.Mathlib.Nat.{mod-lt, mul-assoc, div-eq-of-lt, mod-eq-of-lt, zero-lt-suc}
 use native.Mathlib.Decide.{decLt}
 use native.Mathlib.Omega.{arith}
 use lib.Bits.{bitAnd, bitOr, bitXor, and-shr, or-shr, xor-shr, and-mod, or-mod, xor-mod, and-mask, xor-add-and}
-use lib.Dec.{T, eqb, ltb, leb}
-use lib.Pow.{pow-pos, pow-add, pow-mono, shl-shr, shr-shr, field, mod-pow-add, low}
+use lib.Dec.{T, eqb}
+use lib.Pow.{pow-add, pow-mono, shl-shr, shr-shr, field, mod-pow-add, low}
 use Rattle.model.specs.Rules.{asOne}
 use Rattle.model.proofs.Order.{and-l, and-r}
-use Rattle.leaf.specs.Words.{bit, cellIn}
+use Rattle.leaf.specs.Words.{bit}
 
 two-pos : 0 < 2
 two-pos = zero-lt-suc 1

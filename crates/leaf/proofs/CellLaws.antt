@@ -1,22 +1,22 @@
 -- The cells of words that are changed, joined and counted.
-use mathlib.Core.Path.{_≡_, refl, sym, ap, subst, _∙_}
+use mathlib.Core.Path.{_≡_, refl, sym, ap, _∙_}
 use mathlib.Core.Bool.{Bool, true, false, cond, _&&_, _||_, not}
-use mathlib.Core.Logic.{_⊎_, inl, inr}
+use mathlib.Core.Logic.{inl, inr}
 use Prim.Native.Nat.{ℕ, zero, suc, _+_, _-_, _*_, _/_, _%_, _^_, _<_, _≤_}
 use native.Mathlib.Nat.{div-eq-of-lt}
 use native.Mathlib.Numerals.{add-one}
 use native.Mathlib.Omega.{arith}
 use native.Mathlib.Decide.{decLt}
-use lib.Bits.{bitAnd, bitOr, bitXor, and-mask}
+use lib.Bits.{bitAnd, bitOr, and-mask}
 use lib.Count.{ones, ones-step}
-use lib.Dec.{T, eqb, ltb, leb}
+use lib.Dec.{eqb, ltb, leb}
 use lib.Pow.{pow-pos, pow-mono, shr-shr}
 use Rattle.model.specs.Rules.{asOne}
 use Rattle.std.proofs.shelf.Bits.{one-shl}
-use Rattle.std.proofs.shelf.Tests.{ltb-true, cases-eq, cases-order, eq-eqb, ne-eqb}
+use Rattle.std.proofs.shelf.Tests.{cases-eq, cases-order, eq-eqb, ne-eqb}
 use Rattle.std.proofs.shelf.Ways.{tells}
 use Rattle.leaf.specs.Words.{bit, cellIn, isAt, inRow, sumBelow, livingIn}
-use Rattle.leaf.proofs.BitLaws.{bit-and, bit-or, bit-shr, bit-shl, bit-shl-low, bit-not, bit-above, bit-digit, or-left, or-right, and-on, and-off, allBelow, all-at, mask-cells, same, same-out}
+use Rattle.leaf.proofs.BitLaws.{bit-and, bit-or, bit-shl, bit-shl-low, bit-not, bit-above, bit-digit, allBelow, all-at, same, same-out}
 
 -- ---- one cell
 
@@ -108,8 +108,8 @@ fill-row w y a b u v hy hb ha hu hv =
     let ea = one-shl a 64 (omega arith) in let eb = one-shl b 64 (omega arith) in
     bit-or w _ (8 * v + u) ∙
     ap (λ (t : Bool). bit w (8 * v + u) || t)
-      ((λ i. bit ((eb i - ea i) * 2 ^ (8 * y) % 2 ^ 64) (8 * v + u)) ∙ row-bits (2 ^ b - 2 ^ a) y u v (run-byte a b hb) hy hu hv ∙
-      ap (λ (t : Bool). eqb v y && t) (run-cells a b u (omega arith) (omega arith) hu) ∙ assoc (eqb v y) (leb a u) (ltb u b))
+    ((λ i. bit ((eb i - ea i) * 2 ^ (8 * y) % 2 ^ 64) (8 * v + u)) ∙ row-bits (2 ^ b - 2 ^ a) y u v (run-byte a b hb) hy hu hv ∙
+    ap (λ (t : Bool). eqb v y && t) (run-cells a b u (omega arith) (omega arith) hu) ∙ assoc (eqb v y) (leb a u) (ltb u b))
   where
     assoc : (p q r : Bool) → (p && (q && r)) ≡ (p && q && r)
     assoc true true r = refl

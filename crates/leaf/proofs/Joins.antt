@@ -1,10 +1,10 @@
 -- The cells of words that are put together from parts of others.
-use mathlib.Core.Path.{_≡_, refl, sym, ap, _∙_}
-use mathlib.Core.Bool.{Bool, true, false, _&&_, not}
+use mathlib.Core.Path.{_≡_, ap, _∙_}
+use mathlib.Core.Bool.{not}
 use Prim.Native.Nat.{ℕ, _+_, _*_, _/_, _%_, _^_, _<_}
 use native.Mathlib.Omega.{arith}
 use lib.Bits.{bitAnd, bitOr}
-use lib.Dec.{ltb, leb}
+use lib.Dec.{ltb}
 use Rattle.std.proofs.shelf.Tests.{lt-ltb, le-ltb}
 use Rattle.leaf.specs.Words.{bit, cellIn}
 use Rattle.leaf.proofs.BitLaws.{bit-shr, bit-shl, bit-shl-low, or-left, or-right, and-on, and-off, bit-above, mask-cells}

@@ -3,5 +3,5 @@ pub mod CellLaws
 pub mod Joins
 pub mod Plain
 pub mod Showing
-pub mod AsSquares
 pub mod Adding
+pub mod AsSquares

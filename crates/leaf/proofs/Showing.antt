@@ -1,12 +1,11 @@
 -- Words that show a plane: one generation on, and put together.
 use mathlib.Core.Path.{_≡_, refl, sym, ap, transport, _∙_}
-use mathlib.Core.Bool.{Bool, true, false, _&&_}
-use Prim.Native.Nat.{ℕ, zero, suc, _+_, _-_, _<_, _≤_}
+use mathlib.Core.Bool.{Bool, true, _&&_}
+use Prim.Native.Nat.{ℕ, suc, _+_, _-_, _<_, _≤_}
 use native.Mathlib.Numerals.{add-one}
 use native.Mathlib.Omega.{arith}
 use native.Mathlib.Decide.{decLt}
 use borrow.Author.Differences.{ints}
-use lib.Dec.{ltb}
 use lib.IntN.{ℤ, pos}
 use Rattle.model.specs.Planes.{Plane, back, ahead, always, step, steps}
 use Rattle.model.specs.Rules.{Rule as Law, life}
@@ -36,16 +35,16 @@ pub next-shows : (r : Law) (w next : ℕ) (p : Plane Bool) (i j a b : ℕ) → b
 next-shows r w next p i j a b small made s =
     record {
       at =
-        λ x y lx hx ly hy.
-        let l : a ≤ x - 1 = omega arith in let l1 : x - 1 < b = omega arith in let m : a ≤ x = omega arith in let m1 : x < b = omega arith in
-        let g : a ≤ x + 1 = omega arith in let g1 : x + 1 < b = omega arith in
-        let u : a ≤ y - 1 = omega arith in let u1 : y - 1 < b = omega arith in let v : a ≤ y = omega arith in let v1 : y < b = omega arith in
-        let d : a ≤ y + 1 = omega arith in let d1 : y + 1 < b = omega arith in
-        let bx = left-of i x (omega arith) in let by = left-of j y (omega arith) in let ax = right-of i x in let ay = right-of j y in
-        made x y (omega arith) (omega arith) ∙ ap (λ (t : Bool). t && nextIn r w x y) (is-inner x y (omega arith) (omega arith) (omega arith) (omega arith)) ∙
-        (λ k. life r (seen s (x - 1) (y - 1) l l1 u u1 bx by k) (seen s x (y - 1) m m1 u u1 refl by k) (seen s (x + 1) (y - 1) g g1 u u1 ax by k)
+          λ x y lx hx ly hy.
+          let l : a ≤ x - 1 = omega arith in let l1 : x - 1 < b = omega arith in let m : a ≤ x = omega arith in let m1 : x < b = omega arith in
+          let g : a ≤ x + 1 = omega arith in let g1 : x + 1 < b = omega arith in
+          let u : a ≤ y - 1 = omega arith in let u1 : y - 1 < b = omega arith in let v : a ≤ y = omega arith in let v1 : y < b = omega arith in
+          let d : a ≤ y + 1 = omega arith in let d1 : y + 1 < b = omega arith in
+          let bx = left-of i x (omega arith) in let by = left-of j y (omega arith) in let ax = right-of i x in let ay = right-of j y in
+          made x y (omega arith) (omega arith) ∙ ap (λ (t : Bool). t && nextIn r w x y) (is-inner x y (omega arith) (omega arith) (omega arith) (omega arith)) ∙
+          (λ k. life r (seen s (x - 1) (y - 1) l l1 u u1 bx by k) (seen s x (y - 1) m m1 u u1 refl by k) (seen s (x + 1) (y - 1) g g1 u u1 ax by k)
           (seen s (x - 1) y l l1 v v1 bx refl k) (seen s x y m m1 v v1 refl refl k) (seen s (x + 1) y g g1 v v1 ax refl k)
-          (seen s (x - 1) (y + 1) l l1 d d1 bx ay k) (seen s x (y + 1) m m1 d d1 refl ay k) (seen s (x + 1) (y + 1) g g1 d d1 ax ay k))
+          (seen s (x - 1) (y + 1) l l1 d d1 bx ay k) (seen s x (y + 1) m m1 d d1 refl ay k) (seen s (x + 1) (y + 1) g g1 d d1 ax ay k));
     }
 
 pub after-next : (r : Law) (n : ℕ) (p : Plane Bool) → step (life r) (after r n p) ≡ after r (suc n) p
@@ -65,10 +64,10 @@ later-next r n w now next h l made =
     let e : 8 - n - 1 ≡ 8 - (n + 1) = omega arith in
     record {
       shows =
-        λ p i j s.
-        let t = next-shows r now next (after r n p) i j n (8 - n) (omega arith) made (l .shows p i j s) in
-        let q : after r (suc n) p ≡ after r (n + 1) p = ap (λ (m : ℕ). after r m p) (sym (add-one n)) in
-        transport (λ k. Shows next ((after-next r n p ∙ q) k) i j (sym (add-one n) k) (e k)) t
+          λ p i j s.
+          let t = next-shows r now next (after r n p) i j n (8 - n) (omega arith) made (l .shows p i j s) in
+          let q : after r (suc n) p ≡ after r (n + 1) p = ap (λ (m : ℕ). after r m p) (sym (add-one n)) in
+          transport (λ k. Shows next ((after-next r n p ∙ q) k) i j (sym (add-one n) k) (e k)) t;
     }
 
 -- ---- words put together
@@ -83,22 +82,22 @@ quarters : {r : ℕ} {p : Plane Bool} (i j : ℕ) →
 quarters {r} {p} i j nw ne sw se =
     record {
       at =
-        λ x y lx hx ly hy.
-        elim (decLt x 4) [
-          | yes a ↦
-              elim (decLt y 4) [
-                | yes b ↦ nw x y a b
-                | no b ↦ let f : y - 4 + 4 ≡ y = omega arith in transport (λ k. cellIn r x (f k) ≡ p (pos (i + x)) (pos (j + f k))) (sw x (y - 4) a (omega arith))
-              ]
-          | no a ↦
-              let e : x - 4 + 4 ≡ x = omega arith in
-              elim (decLt y 4) [
-                | yes b ↦ transport (λ k. cellIn r (e k) y ≡ p (pos (i + e k)) (pos (j + y))) (ne (x - 4) y (omega arith) b)
-                | no b ↦
-                    let f : y - 4 + 4 ≡ y = omega arith in
-                    transport (λ k. cellIn r (e k) (f k) ≡ p (pos (i + e k)) (pos (j + f k))) (se (x - 4) (y - 4) (omega arith) (omega arith))
-              ]
-        ]
+          λ x y lx hx ly hy.
+          elim (decLt x 4) [
+            | yes a ↦
+                elim (decLt y 4) [
+                  | yes b ↦ nw x y a b
+                  | no b ↦ let f : y - 4 + 4 ≡ y = omega arith in transport (λ k. cellIn r x (f k) ≡ p (pos (i + x)) (pos (j + f k))) (sw x (y - 4) a (omega arith))
+                ]
+            | no a ↦
+                let e : x - 4 + 4 ≡ x = omega arith in
+                elim (decLt y 4) [
+                  | yes b ↦ transport (λ k. cellIn r (e k) y ≡ p (pos (i + e k)) (pos (j + y))) (ne (x - 4) y (omega arith) b)
+                  | no b ↦
+                      let f : y - 4 + 4 ≡ y = omega arith in
+                      transport (λ k. cellIn r (e k) (f k) ≡ p (pos (i + e k)) (pos (j + f k))) (se (x - 4) (y - 4) (omega arith) (omega arith))
+                ]
+          ];
     }
 
 -- a cell of the word is the plane's at that place, counted from elsewhere
@@ -111,20 +110,20 @@ pub shows-across : {p : Plane Bool} {west east r i j : ℕ} → Shows west p i j
     Shows r p (i + 4) j 0 8
 shows-across {i = i} {j = j} w e left right =
     quarters (i + 4) j
-      (λ x y hx hy. left x y hx (omega arith) ∙ moved w (x + 4) y _ _ (omega arith) (omega arith) (omega arith) (omega arith) (omega arith) refl)
-      (λ x y hx hy. right x y hx (omega arith) ∙ moved e x y _ _ (omega arith) (omega arith) (omega arith) (omega arith) (omega arith) refl)
-      (λ x y hx hy. left x (y + 4) hx (omega arith) ∙ moved w (x + 4) (y + 4) _ _ (omega arith) (omega arith) (omega arith) (omega arith) (omega arith) refl)
-      (λ x y hx hy. right x (y + 4) hx (omega arith) ∙ moved e x (y + 4) _ _ (omega arith) (omega arith) (omega arith) (omega arith) (omega arith) refl)
+    (λ x y hx hy. left x y hx (omega arith) ∙ moved w (x + 4) y _ _ (omega arith) (omega arith) (omega arith) (omega arith) (omega arith) refl)
+    (λ x y hx hy. right x y hx (omega arith) ∙ moved e x y _ _ (omega arith) (omega arith) (omega arith) (omega arith) (omega arith) refl)
+    (λ x y hx hy. left x (y + 4) hx (omega arith) ∙ moved w (x + 4) (y + 4) _ _ (omega arith) (omega arith) (omega arith) (omega arith) (omega arith) refl)
+    (λ x y hx hy. right x (y + 4) hx (omega arith) ∙ moved e x (y + 4) _ _ (omega arith) (omega arith) (omega arith) (omega arith) (omega arith) refl)
 
 pub shows-down : {p : Plane Bool} {north south r i j : ℕ} → Shows north p i j 0 8 → Shows south p i (j + 8) 0 8 →
     ((x y : ℕ) → x < 8 → y < 4 → cellIn r x y ≡ cellIn north x (y + 4)) → ((x y : ℕ) → x < 8 → y < 4 → cellIn r x (y + 4) ≡ cellIn south x y) →
     Shows r p i (j + 4) 0 8
 shows-down {i = i} {j = j} n s upper lower =
     quarters i (j + 4)
-      (λ x y hx hy. upper x y (omega arith) hy ∙ moved n x (y + 4) _ _ (omega arith) (omega arith) (omega arith) (omega arith) refl (omega arith))
-      (λ x y hx hy. upper (x + 4) y (omega arith) hy ∙ moved n (x + 4) (y + 4) _ _ (omega arith) (omega arith) (omega arith) (omega arith) refl (omega arith))
-      (λ x y hx hy. lower x y (omega arith) hy ∙ moved s x y _ _ (omega arith) (omega arith) (omega arith) (omega arith) refl (omega arith))
-      (λ x y hx hy. lower (x + 4) y (omega arith) hy ∙ moved s (x + 4) y _ _ (omega arith) (omega arith) (omega arith) (omega arith) refl (omega arith))
+    (λ x y hx hy. upper x y (omega arith) hy ∙ moved n x (y + 4) _ _ (omega arith) (omega arith) (omega arith) (omega arith) refl (omega arith))
+    (λ x y hx hy. upper (x + 4) y (omega arith) hy ∙ moved n (x + 4) (y + 4) _ _ (omega arith) (omega arith) (omega arith) (omega arith) refl (omega arith))
+    (λ x y hx hy. lower x y (omega arith) hy ∙ moved s x y _ _ (omega arith) (omega arith) (omega arith) (omega arith) refl (omega arith))
+    (λ x y hx hy. lower (x + 4) y (omega arith) hy ∙ moved s (x + 4) y _ _ (omega arith) (omega arith) (omega arith) (omega arith) refl (omega arith))
 
 pub shows-middle : {p : Plane Bool} {nw ne sw se r i j : ℕ} →
     Shows nw p i j 0 8 → Shows ne p (i + 8) j 0 8 → Shows sw p i (j + 8) 0 8 → Shows se p (i + 8) (j + 8) 0 8 →
@@ -133,10 +132,10 @@ pub shows-middle : {p : Plane Bool} {nw ne sw se r i j : ℕ} →
     Shows r p (i + 4) (j + 4) 0 8
 shows-middle {i = i} {j = j} a b c d nw ne sw se =
     quarters (i + 4) (j + 4)
-      (λ x y hx hy. nw x y hx hy ∙ moved a (x + 4) (y + 4) _ _ (omega arith) (omega arith) (omega arith) (omega arith) (omega arith) (omega arith))
-      (λ x y hx hy. ne x y hx hy ∙ moved b x (y + 4) _ _ (omega arith) (omega arith) (omega arith) (omega arith) (omega arith) (omega arith))
-      (λ x y hx hy. sw x y hx hy ∙ moved c (x + 4) y _ _ (omega arith) (omega arith) (omega arith) (omega arith) (omega arith) (omega arith))
-      (λ x y hx hy. se x y hx hy ∙ moved d x y _ _ (omega arith) (omega arith) (omega arith) (omega arith) (omega arith) (omega arith))
+    (λ x y hx hy. nw x y hx hy ∙ moved a (x + 4) (y + 4) _ _ (omega arith) (omega arith) (omega arith) (omega arith) (omega arith) (omega arith))
+    (λ x y hx hy. ne x y hx hy ∙ moved b x (y + 4) _ _ (omega arith) (omega arith) (omega arith) (omega arith) (omega arith) (omega arith))
+    (λ x y hx hy. sw x y hx hy ∙ moved c (x + 4) y _ _ (omega arith) (omega arith) (omega arith) (omega arith) (omega arith) (omega arith))
+    (λ x y hx hy. se x y hx hy ∙ moved d x y _ _ (omega arith) (omega arith) (omega arith) (omega arith) (omega arith) (omega arith))
 
 -- the cores of four words that overlap by half
 pub shows-cores : {p : Plane Bool} {nw ne sw se r i j a b : ℕ} → a ≤ 2 → 6 ≤ b →
@@ -146,10 +145,10 @@ pub shows-cores : {p : Plane Bool} {nw ne sw se r i j a b : ℕ} → a ≤ 2 →
     Shows r p (i + 2) (j + 2) 0 8
 shows-cores {i = i} {j = j} l h a b c d nw ne sw se =
     quarters (i + 2) (j + 2)
-      (λ x y hx hy. nw x y hx hy ∙ moved a (x + 2) (y + 2) _ _ (omega arith) (omega arith) (omega arith) (omega arith) (omega arith) (omega arith))
-      (λ x y hx hy. ne x y hx hy ∙ moved b (x + 2) (y + 2) _ _ (omega arith) (omega arith) (omega arith) (omega arith) (omega arith) (omega arith))
-      (λ x y hx hy. sw x y hx hy ∙ moved c (x + 2) (y + 2) _ _ (omega arith) (omega arith) (omega arith) (omega arith) (omega arith) (omega arith))
-      (λ x y hx hy. se x y hx hy ∙ moved d (x + 2) (y + 2) _ _ (omega arith) (omega arith) (omega arith) (omega arith) (omega arith) (omega arith))
+    (λ x y hx hy. nw x y hx hy ∙ moved a (x + 2) (y + 2) _ _ (omega arith) (omega arith) (omega arith) (omega arith) (omega arith) (omega arith))
+    (λ x y hx hy. ne x y hx hy ∙ moved b (x + 2) (y + 2) _ _ (omega arith) (omega arith) (omega arith) (omega arith) (omega arith) (omega arith))
+    (λ x y hx hy. sw x y hx hy ∙ moved c (x + 2) (y + 2) _ _ (omega arith) (omega arith) (omega arith) (omega arith) (omega arith) (omega arith))
+    (λ x y hx hy. se x y hx hy ∙ moved d (x + 2) (y + 2) _ _ (omega arith) (omega arith) (omega arith) (omega arith) (omega arith) (omega arith))
 
 -- ---- the four words of a square of side 16
 

@@ -1,5 +1,5 @@
 -- A word of 64 bits as a square of side 8: the cell in column x of row y is bit 8 * y + x.
-use mathlib.Core.Bool.{Bool, _&&_, _||_}
+use mathlib.Core.Bool.{Bool, _&&_}
 use Prim.Native.Nat.{ℕ, zero, suc, _+_, _-_, _*_, _/_, _%_, _^_}
 use lib.Dec.{eqb, leb, ltb}
 use Rattle.model.specs.Rules.{Rule as Law, asOne, tally, becomes}
@@ -36,7 +36,7 @@ inner x y = ltb 0 x && ltb x 7 && ltb 0 y && ltb y 7
 abbrev pub neighboursIn : ℕ → ℕ → ℕ → ℕ
 neighboursIn w x y =
     tally (cellIn w (x - 1) (y - 1)) (cellIn w x (y - 1)) (cellIn w (x + 1) (y - 1)) (cellIn w (x - 1) y) (cellIn w (x + 1) y)
-      (cellIn w (x - 1) (y + 1)) (cellIn w x (y + 1)) (cellIn w (x + 1) (y + 1))
+    (cellIn w (x - 1) (y + 1)) (cellIn w x (y + 1)) (cellIn w (x + 1) (y + 1))
 
 -- what the rule makes of an inner cell
 abbrev pub nextIn : Law → ℕ → ℕ → ℕ → Bool

@@ -24,7 +24,16 @@ pub fn neighbour_sums(w: u64) -> Sums
     ensures { λ r. ⌜ ((x y : ℕ) → 0 < x → x < 7 → 0 < y → y < 7 →
         neighboursIn w x y ≡ digit (r .ones) (8 * y + x) + 2 * digit (r .twos) (8 * y + x) + 4 * digit (r .fours) (8 * y + x) + 8 * digit (r .eights) (8 * y + x)) ⌝ }
 {
-    add8(w << 9, w << 8, w << 7, w << 1, w >> 1, w >> 7, w >> 8, w >> 9)
+    add8(
+        w << 9,
+        w << 8,
+        w << 7,
+        w << 1,
+        w >> 1,
+        w >> 7,
+        w >> 8,
+        w >> 9,
+    )
 }
 
 fn add2(a: u64, b: u64) -> Pair

@@ -1,5 +1,5 @@
 // A word of 64 bits is a square of side 8: the cell in column x of row y is bit 8y + x, and lives where that is set.
-ghost use mathlib.Core.Bool.{Bool, true, false, cond, _&&_, _||_};
+ghost use mathlib.Core.Bool.{Bool, cond, _&&_, _||_};
 ghost use mathlib.Core.Path.{_≡_};
 ghost use Prim.Native.Nat.{ℕ, _+_, _<_, _≤_};
 ghost use lib.Dec.{T};
@@ -18,11 +18,13 @@ use rules::Rule;
 
 // The left and the right half of every row.
 const WEST: u64 = 0x0f0f_0f0f_0f0f_0f0f;
+
 const EAST: u64 = 0xf0f0_f0f0_f0f0_f0f0;
 
 // The cells that have all their neighbours in the word.
 const INNER: u64 = 0x007e_7e7e_7e7e_7e00;
 
+// Whether the cell in column x of row y lives.
 pub fn cell(w: u64, x: u32, y: u32) -> bool
     requires { ⌜ x < 8 ⌝ ∗ ⌜ y < 8 ⌝ }
     ensures { λ r. ⌜ r ≡ cellIn w x y ⌝ }
@@ -30,6 +32,7 @@ pub fn cell(w: u64, x: u32, y: u32) -> bool
     (w >> (8 * y + x)) & 1 == 1
 }
 
+// The word in which that cell lives or does not, and all others are as they were.
 pub fn with_cell(w: u64, x: u32, y: u32, lives: bool) -> u64
     requires { ⌜ x < 8 ⌝ ∗ ⌜ y < 8 ⌝ }
     ensures { λ r. ⌜ ((u v : ℕ) → u < 8 → v < 8 → cellIn r u v ≡ cond (isAt x y u v) lives (cellIn w u v)) ⌝ }
@@ -104,13 +107,18 @@ fn neighbours(w: u64, x: u32, y: u32) -> u32
     ensures is { λ r. ⌜ r ≡ neighboursIn w x y ⌝ }
     ensures eight { λ r. ⌜ r ≤ 8 ⌝ }
 {
-    let above = cell(w, x - 1, y - 1) as u32 + cell(w, x, y - 1) as u32 + cell(w, x + 1, y - 1) as u32;
+    let above = cell(w, x - 1, y - 1) as u32
+        + cell(w, x, y - 1) as u32
+        + cell(w, x + 1, y - 1) as u32;
     let beside = cell(w, x - 1, y) as u32 + cell(w, x + 1, y) as u32;
-    let below = cell(w, x - 1, y + 1) as u32 + cell(w, x, y + 1) as u32 + cell(w, x + 1, y + 1) as u32;
+    let below = cell(w, x - 1, y + 1) as u32
+        + cell(w, x, y + 1) as u32
+        + cell(w, x + 1, y + 1) as u32;
     above + beside + below
 }
 
-// The same, all cells at once.
+// The same generation, all cells at once: the neighbours are counted in binary, and each digit of the count halves what
+// may become of a cell.
 pub fn generation(rule: Rule, w: u64) -> u64
     requires { ⌜ T (goodRule (law rule)) ⌝ }
     ensures { λ r. ⌜ ((x y : ℕ) → x < 8 → y < 8 → cellIn r x y ≡ (inner x y && nextIn (law rule) w x y)) ⌝ }
@@ -120,7 +128,11 @@ pub fn generation(rule: Rule, w: u64) -> u64
     let four = choose(sums.ones, fates(rule, w, 5), fates(rule, w, 4));
     let two = choose(sums.ones, fates(rule, w, 3), fates(rule, w, 2));
     let zero = choose(sums.ones, fates(rule, w, 1), fates(rule, w, 0));
-    let below_eight = choose(sums.fours, choose(sums.twos, six, four), choose(sums.twos, two, zero));
+    let below_eight = choose(
+        sums.fours,
+        choose(sums.twos, six, four),
+        choose(sums.twos, two, zero),
+    );
     choose(sums.eights, fates(rule, w, 8), below_eight) & INNER
 }
 
@@ -169,8 +181,8 @@ fn join_cores(nw: u64, ne: u64, sw: u64, se: u64) -> u64
 
 // The middle of a square of side 16, given by its four words, up to four generations later.
 //
-// Nine words that overlap by half are advanced; their cores make four words that lie two cells further in, and the cores of
-// those, advanced in turn, make the middle.
+// Nine words that overlap by half are advanced; their cores make four words that lie two cells further in, and the cores
+// of those, advanced in turn, make the middle.
 pub fn leap16(rule: Rule, nw: u64, ne: u64, sw: u64, se: u64, n: u32) -> u64
     requires good { ⌜ T (goodRule (law rule)) ⌝ }
     requires four { ⌜ n ≤ 4 ⌝ }

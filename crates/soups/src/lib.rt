@@ -1,9 +1,14 @@
 // The plane on lists held to a plain Life on a dense grid, written on its own: random soups under random rules.
+// And squares of side 16 by words, held to what a plain Life in another language made of them.
 #[cfg(test)]
 mod tests {
     use calls::Field;
     use listplane::ListPlane;
     use listplane::ListPlaneField;
+    use squaretext::Fault;
+    use squaretext::FaultPartialEq;
+    use squaretext::answer;
+    use squaretext::middle_text;
     use std::test::*;
 
     // The grid has so many columns and rows; what leaves it is lost, so patterns are kept away from its rim.
@@ -211,5 +216,53 @@ mod tests {
             )?;
         }
         Ok(())
+    }
+
+    fn middle_is(text: &[u8], wanted: &[u8]) -> Result<(), Fail> {
+        let Ok(middle) = answer(text) else {
+            return Err(Fail::new("a square was refused"));
+        };
+        let found = middle_text(middle);
+        check_eq(wanted.len(), found.len())?;
+        for i in 0..found.len() {
+            check_eq(wanted.get(i).copied().unwrap_or(0), found[i])?;
+        }
+        Ok(())
+    }
+
+    fn refused_as(text: &[u8], wanted: Fault) -> Result<(), Fail> {
+        match answer(text) {
+            Ok(_) => Err(Fail::new("a text out of form was taken")),
+            Err(fault) => check(fault == wanted),
+        }
+    }
+
+    #[test]
+    fn squares_by_words() -> Result<(), Fail> {
+        // four by four living cells
+        middle_is(
+            b"b3s23\n................\n................\n................\n................\n................\n................\n......oooo......\n......oooo......\n......oooo......\n......oooo......\n................\n................\n................\n................\n................\n................\n",
+            b"........\n........\n........\n........\n........\n........\n........\n........\n",
+        )?;
+        // the four in their middle
+        middle_is(
+            b"b3s23\n................\n................\n................\n................\n................\n................\n................\n.......oo.......\n.......oo.......\n................\n................\n................\n................\n................\n................\n................\n",
+            b"........\n........\n........\n...oo...\n...oo...\n........\n........\n........\n",
+        )?;
+        // a glider
+        middle_is(
+            b"b3s23\n................\n................\n................\n................\n................\n......o.........\n.......o........\n.....ooo........\n................\n................\n................\n................\n................\n................\n................\n................\n",
+            b"........\n........\n...o....\n....o...\n..ooo...\n........\n........\n........\n",
+        )?;
+        // one cell, birth with one
+        middle_is(
+            b"b1s\n................\n................\n................\n................\n................\n................\n................\n................\n........o.......\n................\n................\n................\n................\n................\n................\n................\n",
+            b"o.......\n........\n........\n........\n........\n........\n........\n........\n",
+        )?;
+        refused_as(b"", Fault::NoRule)?;
+        refused_as(b"B3/S23\n", Fault::NoRule)?;
+        refused_as(b"b03s23\n", Fault::BadRule)?;
+        refused_as(b"b3s23", Fault::BadSquare)?;
+        refused_as(b"b3s23\n................\n", Fault::BadSquare)
     }
 }

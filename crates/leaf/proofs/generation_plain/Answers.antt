@@ -15,9 +15,9 @@ loop-x-holds c u v hu hv = row-begins u v _ _ _ (c .loop-y .inv u v hu hv)
 pub loop-x-again : need.loop-x-again
 loop-x-again c u v hu hv =
     cell-made u v _ _ _ _ _ (nextIn (law (c .args .rule)) (c .args .w)) (omega arith) (omega arith) (omega arith) (omega arith)
-      (c .with-cell-next .ensures u v hu hv)
-      (c .fate-lives .ensures ∙ (λ i. becomes (law (c .args .rule)) (c .cell .ensures i) (c .neighbours .ensures .is i)))
-      (c .loop-x .inv u v hu hv)
+    (c .with-cell-next .ensures u v hu hv)
+    (c .fate-lives .ensures ∙ (λ i. becomes (law (c .args .rule)) (c .cell .ensures i) (c .neighbours .ensures .is i)))
+    (c .loop-x .inv u v hu hv)
 
 pub loop-y-again : need.loop-y-again
 loop-y-again c u v hu hv = row-ends u v _ _ _ _ (c .loop-x-test .left) (c .loop-x .inv u v hu hv)

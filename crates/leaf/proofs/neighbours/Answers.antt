@@ -7,8 +7,8 @@ pub returns : need.returns
 returns c =
     record {
       is =
-        count-is _ _ _ _ _ _ _ _ ∙
-        (λ i. tally (c .cell .ensures i) (c .cell-2 .ensures i) (c .cell-3 .ensures i) (c .cell-4 .ensures i) (c .cell-5 .ensures i)
+          count-is _ _ _ _ _ _ _ _ ∙
+          (λ i. tally (c .cell .ensures i) (c .cell-2 .ensures i) (c .cell-3 .ensures i) (c .cell-4 .ensures i) (c .cell-5 .ensures i)
           (c .cell-6 .ensures i) (c .cell-7 .ensures i) (c .cell-8 .ensures i));
       eight = count-most _ _ _ _ _ _ _ _;
     }

@@ -1,4 +1,4 @@
-use mathlib.Core.Path.{_≡_, sym, ap, _∙_}
+use mathlib.Core.Path.{sym, ap, _∙_}
 use mathlib.Core.Bool.{Bool, cond}
 use Rattle.leaf.specs.Words.{cellIn, isAt}
 use Rattle.leaf.proofs.CellLaws.{put-living, put-dead}
