@@ -13,7 +13,7 @@ use mir.Val.{boolByte}
 use Rattle.model.specs.Planes.{Plane, back, ahead, step}
 use Rattle.model.specs.Rules.{Rule, asOne, becomes, tally, life}
 use Rattle.model.specs.Cells.{Cell, lives, planeOf}
-use Rattle.model.proofs.Order.{bool-same}
+use Rattle.model.proofs.Order.{bool-same, byte-one}
 use Rattle.lent.specs.declared.Stretch.{Stretch}
 use Rattle.lent.specs.Stretches.{toZ, rowAt, colAt, cellsIn, Listed}
 use Rattle.lent.proofs.Listing.{toZ-inj, listed-near, listed-lives, listed-find, Found}
@@ -183,14 +183,6 @@ pub record Taken (m : List ℕ) (s : Stretch) (x : ℕ) (c c′ : Cursor) (r : B
   pub end : c′ .end ≡ c .end
   pub at : c′ .at ≡ c .at + asOne r
   pub byte : n ≡ boolByte r
-
-byte-one : (b : Bool) → boolByte b ≡ asOne b
-byte-one true = refl
-byte-one false = refl
-
-pub byte-most : (b : Bool) → boolByte b ≤ 1
-byte-most true = omega arith
-byte-most false = omega arith
 
 one-most : (b : Bool) → asOne b ≤ 1
 one-most true = omega arith

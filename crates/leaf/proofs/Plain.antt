@@ -7,18 +7,11 @@ use native.Mathlib.Omega.{arith}
 use lib.Dec.{ltb, eqb}
 use mir.Val.{boolByte}
 use Rattle.model.specs.Rules.{asOne, tally}
+use Rattle.model.proofs.Order.{byte-one, byte-most}
 use Rattle.std.proofs.shelf.Tests.{cases-eq}
 use Rattle.std.proofs.shelf.Ways.{tells}
 use Rattle.leaf.specs.Words.{cellIn, isAt, inner}
 use Rattle.leaf.proofs.BitLaws.{bit-above}
-
-byte-one : (b : Bool) → boolByte b ≡ asOne b
-byte-one true = refl
-byte-one false = refl
-
-byte-most : (b : Bool) → boolByte b ≤ 1
-byte-most true = omega arith
-byte-most false = omega arith
 
 pub count-is : (a b c d e f g h : Bool) →
     boolByte a + boolByte b + boolByte c + (boolByte d + boolByte e) + (boolByte f + boolByte g + boolByte h) ≡ tally a b c d e f g h

@@ -3,11 +3,14 @@ use mathlib.Core.Path.{_≡_, refl, sym, subst}
 use mathlib.Core.Bool.{Bool, true, false, cond, not, _&&_, _||_}
 use mathlib.Core.List.{List, [], _∷_}
 use mathlib.Core.Logic.{_⊎_, inl, inr}
+use Prim.Native.Nat.{_≤_}
 use native.Mathlib.Omega.{arith}
 use borrow.Author.Differences.{ints}
 use lib.Dec.{T}
 use lib.IntN.{ℤ}
 use lib.Signed.{leZ}
+use mir.Val.{boolByte}
+use Rattle.model.specs.Rules.{asOne}
 use Rattle.model.specs.Cells.{Cell, cellAt, sameZ, sameCell, before, inOrder, lives}
 
 pub bool-same : (a b : Bool) → (T a → T b) → (T b → T a) → a ≡ b
@@ -15,6 +18,15 @@ bool-same true true f g = refl
 bool-same true false f g = absurd (f tt)
 bool-same false true f g = absurd (g tt)
 bool-same false false f g = refl
+
+-- a truth value as the code counts it
+pub byte-one : (b : Bool) → boolByte b ≡ asOne b
+byte-one true = refl
+byte-one false = refl
+
+pub byte-most : (b : Bool) → boolByte b ≤ 1
+byte-most true = omega arith
+byte-most false = omega arith
 
 pub and-l : (a b : Bool) → T (a && b) → T a
 and-l true b t = tt

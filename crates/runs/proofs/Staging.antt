@@ -25,10 +25,6 @@ use Rattle.lent.specs.Stretches.{cellsIn, roomWords, roomCells, Listed, Beside,
 use Rattle.lent.proofs.Writing.{beside-cells, beside-listed}
 use Rattle.runs.specs.Stages.{Placed, Staged, Kept, Stepped, worldIn}
 
-apart-swap : (a b : ℕ) → Apart a b → Apart b a
-apart-swap a b (inl p) = inr p
-apart-swap a b (inr p) = inl p
-
 placed-room : (at : ℕ) → Placed at → at + roomWords ≤ 3 * roomWords
 placed-room at (inl e) = omega arith
 placed-room at (inr (inl e)) = omega arith

@@ -4,7 +4,8 @@ use native.Mathlib.Omega.{arith}
 use Rattle.lent.specs.Mem.{mem}
 use Rattle.lent.specs.declared.Stretch.{Stretch}
 use Rattle.generation.specs.declared.scan.Cursor.{Cursor}
-use Rattle.generation.proofs.Windows.{Taken, byte-most, window-most, slide-window, slide-fate, slide-few, slide-falls}
+use Rattle.model.proofs.Order.{byte-most}
+use Rattle.generation.proofs.Windows.{Taken, window-most, slide-window, slide-fate, slide-few, slide-falls}
 use Rattle.generation.proofs.scan.Sweep.slide.Needs as need
 
 pub add-neighbours : need.add-neighbours
