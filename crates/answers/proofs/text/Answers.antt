@@ -4,4 +4,4 @@ use Rattle.answers.proofs.text.Goals as goal
 
 pub returns : goal.returns
 returns c =
-    wrote_part c.args.out.now c.copy-from-slice.new.self c.args.at _ c.args.bytes.now c.copy-from-slice.ensures.after (omega arith) c.requires
+    wrote_part c.args.out.now c.copy_from_slice.new.self c.args.at _ c.args.bytes.now c.copy_from_slice.ensures.after (omega arith) c.requires

@@ -18,33 +18,33 @@ loop-rule-init c =
           (progress_start (law c.args.rule) m c.args.from c.args.to c.requires.good c.requires.listed c.requires.room c.requires.apart),
     )
 
-pub next-row-requires : goal.next-row-requires
-next-row-requires c =
+pub next_row-requires : goal.next_row-requires
+next_row-requires c =
     let i = c.loop-rule.invariant in let k = c.loop-rule-test.ensures in
     record { progress = progress_rows (law c.args.rule) (mem c.loop-rule.words) c.args.from c.args.to c.loop-rule.n c.loop-rule.rows c.skip.new.self i.3 k; rows = k.0 }
 
-pub returns-in-err-n : goal.returns-in-err-n
-returns-in-err-n c =
-    let i = c.loop-rule.invariant in let e = c.in-err-n.ensures in
+pub returns-in_err-n : goal.returns-in_err-n
+returns-in_err-n c =
+    let i = c.loop-rule.invariant in let e = c.in_err-n.ensures in
     record {
       same = e.same ∙ i.0;
       beside = beside_trans i.1 e.beside;
-      made = subst (λ (o : Option ℕ). NextMade (law c.args.rule) (mem c.args.words.now) (mem c.next-row.new.words) c.args.from c.args.to o) (sym c.from-residual.ensures)
+      made = subst (λ (o : Option ℕ). NextMade (law c.args.rule) (mem c.args.words.now) (mem c.next_row.new.words) c.args.from c.args.to o) (sym c.from_residual.ensures)
           (full_moves i.1 c.args.from c.requires.apart c.requires.listed.few (law c.args.rule) e.made);
     }
 
 pub slide-requires : goal.slide-requires
 slide-requires c =
-    let k = c.loop-rule-test.ensures in let e = c.in-ok-n.ensures in
+    let k = c.loop-rule-test.ensures in let e = c.in_ok-n.ensures in
     (e.made.listed, (rows_moves e.beside c.args.from c.requires.apart c.requires.listed.few c.skip.new.self k.0, k.1))
 
 pub loop-rule-preserved : goal.loop-rule-preserved
 loop-rule-preserved c =
-    let i = c.loop-rule.invariant in let e = c.in-ok-n.ensures in let s = c.slide.ensures in let t = s.top in (
+    let i = c.loop-rule.invariant in let e = c.in_ok-n.ensures in let s = c.slide.ensures in let t = s.top in (
       e.same ∙ i.0,
       beside_trans i.1 e.beside,
       s.rows,
-      progress_lower (law c.args.rule) (mem c.next-row.new.words) c.args.from c.args.to c.in-ok-n.n _ _ e.made (omega (arith, t)),
+      progress_lower (law c.args.rule) (mem c.next_row.new.words) c.args.from c.args.to c.in_ok-n.n _ _ e.made (omega (arith, t)),
     )
 
 pub returns : goal.returns

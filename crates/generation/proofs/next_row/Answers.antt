@@ -22,25 +22,25 @@ turn-requires c =
     let i = c.loop-rule.invariant in let m = mem c.loop-rule.words in let k = c.loop-rule-test.ensures m c.args.from i.4.listed i.2 in
     record { progress = progress_skip (law c.args.rule) m c.args.from c.args.to c.loop-rule.n c.loop-rule.sweep c.skip.new.self i.2 i.4 k; window = k.0; ready = k.1 }
 
-pub returns-in-err-n : goal.returns-in-err-n
-returns-in-err-n c =
-    let i = c.loop-rule.invariant in let e = c.in-err-n.ensures in
+pub returns-in_err-n : goal.returns-in_err-n
+returns-in_err-n c =
+    let i = c.loop-rule.invariant in let e = c.in_err-n.ensures in
     record {
       same = e.same ∙ i.0;
       beside = beside_trans i.1 e.beside;
-      made = subst (λ (o : Option ℕ). RowMade (law c.args.rule) (mem c.args.words.now) (mem c.turn.new.words) c.args.from c.args.to (c.args.rows.top + 2) o) (sym c.from-residual.ensures)
+      made = subst (λ (o : Option ℕ). RowMade (law c.args.rule) (mem c.args.words.now) (mem c.turn.new.words) c.args.from c.args.to (c.args.rows.top + 2) o) (sym c.from_residual.ensures)
           (full_moves i.1 c.args.from c.requires.progress.apart c.requires.progress.listed.few (law c.args.rule) e.turned);
     }
 
 pub loop-rule-smaller : goal.loop-rule-smaller
 loop-rule-smaller c =
     let i = c.loop-rule.invariant in let m = mem c.loop-rule.words in let k = c.loop-rule-test.ensures m c.args.from i.4.listed i.2 in
-    let a = k.2 in let b = c.in-ok-n.ensures.falls in omega (arith, a, b)
+    let a = k.2 in let b = c.in_ok-n.ensures.falls in omega (arith, a, b)
 
 pub loop-rule-preserved : goal.loop-rule-preserved
 loop-rule-preserved c =
     let i = c.loop-rule.invariant in let m = mem c.loop-rule.words in let k = c.loop-rule-test.ensures m c.args.from i.4.listed i.2 in
-    let e = c.in-ok-n.ensures in
+    let e = c.in_ok-n.ensures in
     (e.same ∙ i.0, beside_trans i.1 e.beside, e.turned.1, e.row ∙ k.3 ∙ i.3, e.turned.0)
 
 pub returns : goal.returns

@@ -14,7 +14,7 @@ loop-x-init c u v hu hv = row_begins u v _ _ _ (c.loop-y.invariant u v hu hv)
 pub loop-x-preserved : goal.loop-x-preserved
 loop-x-preserved c u v hu hv =
     cell_made u v _ _ _ _ _ (next_in (law c.args.rule) c.args.w) (omega arith) (omega arith) (omega arith) (omega arith)
-    (c.with-cell-next.ensures u v hu hv)
+    (c.with_cell-next.ensures u v hu hv)
     (c.fate-lives.ensures ∙ (λ i. becomes (law c.args.rule) (c.cell.ensures i) (c.neighbours.ensures.is i)))
     (c.loop-x.invariant u v hu hv)
 

@@ -7,34 +7,34 @@ use Rattle.squaretext.proofs.answer.Goals as goal
 
 pub returns-then-end-input : goal.returns-then-end-input
 returns-then-end-input c =
-    let bs = c.args.input.now in let e = c.line-end-end.ensures in (
+    let bs = c.args.input.now in let e = c.line_end-end.ensures in (
       _,
       _,
       names bs _ _ _ e.line c.in-Some.ensures.text,
       good_of c.in-Some.sets.born c.in-Some.sets.stays c.in-Ok.rule c.in-Ok.ensures,
-      none_left bs c.line-end-end.result c.if-end-input.true e.rest,
+      none_left bs c.line_end-end.result c.if-end-input.true e.rest,
     )
 
-pub returns-then-not-is-square : goal.returns-then-not-is-square
-returns-then-not-is-square c =
-    let bs = c.args.input.now in let e = c.line-end-end.ensures in (
+pub returns-then-not-is_square : goal.returns-then-not-is_square
+returns-then-not-is_square c =
+    let bs = c.args.input.now in let e = c.line_end-end.ensures in (
       _,
       _,
       names bs _ _ _ e.line c.in-Some.ensures.text,
       good_of c.in-Some.sets.born c.in-Some.sets.stays c.in-Ok.rule c.in-Ok.ensures,
-      λ s. false≢true (c.if-not-is-square.ensures.1 (subst SquareText (sym e.rest ∙ to_end bs _) s)),
+      λ s. false≢true (c.if-not-is_square.ensures.1 (subst SquareText (sym e.rest ∙ to_end bs _) s)),
     )
 
 pub returns : goal.returns
 returns c =
-    let bs = c.args.input.now in let e = c.line-end-end.ensures in
-    let rest : take (length bs - (c.line-end-end.result + 1)) (drop (c.line-end-end.result + 1) bs) ≡ next_lines bs = sym (to_end bs _) ∙ e.rest in (
+    let bs = c.args.input.now in let e = c.line_end-end.ensures in
+    let rest : take (length bs - (c.line_end-end.result + 1)) (drop (c.line_end-end.result + 1) bs) ≡ next_lines bs = sym (to_end bs _) ∙ e.rest in (
       _,
       _,
       names bs _ _ _ e.line c.in-Some.ensures.text,
       good_of c.in-Some.sets.born c.in-Some.sets.stays c.in-Ok.rule c.in-Ok.ensures,
-      subst SquareText rest (c.is-square.ensures.0 c.if-not-is-square.false),
-      middle_is _ _ (law c.in-Ok.rule) _ c.word-at-nw.result c.word-at-ne.result c.word-at-sw.result c.word-at-se.result _ rest
-          (law_of c.in-Some.sets.born c.in-Some.sets.stays c.in-Ok.rule c.in-Ok.ensures) c.word-at-nw.ensures c.word-at-ne.ensures c.word-at-sw.ensures c.word-at-se.ensures
+      subst SquareText rest (c.is_square.ensures.0 c.if-not-is_square.false),
+      middle_is _ _ (law c.in-Ok.rule) _ c.word_at-nw.result c.word_at-ne.result c.word_at-sw.result c.word_at-se.result _ rest
+          (law_of c.in-Some.sets.born c.in-Some.sets.stays c.in-Ok.rule c.in-Ok.ensures) c.word_at-nw.ensures c.word_at-ne.ensures c.word_at-sw.ensures c.word_at-se.ensures
           c.leap16.ensures.plane,
     )

@@ -5,5 +5,5 @@ use Rattle.generation.proofs.scan.Rows.skip.Goals as goal
 
 pub returns : goal.returns
 returns c =
-    rows_jump (mem c.args.words.now) c.args.from c.args.self.now c.read-row.result c.row-end-end.result c.requires.0 c.requires.1 (omega arith) c.if-self-from.false c.read-row.ensures
-    (record { low = c.row-end-end.ensures.low; high = c.row-end-end.ensures.high; inside = c.row-end-end.ensures.inside; ends = c.row-end-end.ensures.ends })
+    rows_jump (mem c.args.words.now) c.args.from c.args.self.now c.read-row.result c.row_end-end.result c.requires.0 c.requires.1 (omega arith) c.if-self-from.false c.read-row.ensures
+    (record { low = c.row_end-end.ensures.low; high = c.row_end-end.ensures.high; inside = c.row_end-end.ensures.inside; ends = c.row_end-end.ensures.ends })

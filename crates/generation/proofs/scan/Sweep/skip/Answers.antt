@@ -11,4 +11,4 @@ returns-then-first c m s h g =
 pub returns : goal.returns
 returns c m s h g =
     let l = least_of c.args.self.now c.min.result c.min-first.result c.min.ensures c.min-first.ensures in
-    skip_jump m s c.args.self.now c.min-first.result c.saturating-sub-self.result h g (omega arith) (omega arith) l c.if-first.false c.saturating-sub-self.ensures
+    skip_jump m s c.args.self.now c.min-first.result c.saturating_sub-self.result h g (omega arith) (omega arith) l c.if-first.false c.saturating_sub-self.ensures

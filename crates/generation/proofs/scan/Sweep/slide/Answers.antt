@@ -6,12 +6,12 @@ use Rattle.model.proofs.Order.{byte_most}
 use Rattle.generation.proofs.Windows.{Taken, window_most, slide_window, slide_fate, slide_few, slide_falls}
 use Rattle.generation.proofs.scan.Sweep.slide.Goals as goal
 
-pub overflow-add-neighbours : goal.overflow-add-neighbours
-overflow-add-neighbours c =
+pub overflow_add-neighbours : goal.overflow_add-neighbours
+overflow_add-neighbours c =
     let b = window_most (mem c.args.words.now) c.args.from c.args.self.now c.requires.1.0 in let b0 = b.0 in let b1 = b.1 in omega arith
 
-pub overflow-add-neighbours-2 : goal.overflow-add-neighbours-2
-overflow-add-neighbours-2 c =
+pub overflow_add-neighbours-2 : goal.overflow_add-neighbours-2
+overflow_add-neighbours-2 c =
     let b = window_most (mem c.args.words.now) c.args.from c.args.self.now c.requires.1.0 in let b0 = b.0 in let b1 = b.1 in
     let p = byte_most c.take-above.result in let q = byte_most c.take-here.result in let r = byte_most c.take-below.result in
     omega (arith, c.from.ensures, c.from-2.ensures, c.from-3.ensures)
