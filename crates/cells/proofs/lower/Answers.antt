@@ -8,6 +8,6 @@ pub loop-k-preserved : goal.loop-k-preserved
 loop-k-preserved c =
     let i = c.loop-k.invariant in let at = c.args.s.at in let k = c.loop-k.k in let m = mem c.loop-k.words in let i2 = i.2 in let i3 = i.3 in let t = c.loop-k-test.true in let long = i.1.long in
     let few = c.requires.1.1 in let room = c.requires.0 in
-    let d = copied at k (k - 1) m (mem c.copy-cell.new.words) (omega arith) (omega arith) c.copy-cell.ensures.after in
-    let s = lower_step at c.args.i k (mem c.args.words.now) m (mem c.copy-cell.new.words) d i2 i.4 i.5 in
-    (c.copy-cell.ensures.same ∙ i.0, beside_trans i.1 d.beside, omega arith, omega arith, s.0, s.1)
+    let d = copied at k (k - 1) m (mem c.copy_cell.new.words) (omega arith) (omega arith) c.copy_cell.ensures.after in
+    let s = lower_step at c.args.i k (mem c.args.words.now) m (mem c.copy_cell.new.words) d i2 i.4 i.5 in
+    (c.copy_cell.ensures.same ∙ i.0, beside_trans i.1 d.beside, omega arith, omega arith, s.0, s.1)

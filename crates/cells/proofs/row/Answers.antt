@@ -10,7 +10,7 @@ pub loop-i-preserved : goal.loop-i-preserved
 loop-i-preserved c =
     below_more _ _
     (λ k h. let ne : k ≢ c.loop-i.i = omega arith in rw get_or-set_other (c.loop-i.invariant k h))
-    (let lt : c.loop-i.i < length c.loop-i.out = omega arith in rw get_or-set_same c.cell-byte.ensures)
+    (let lt : c.loop-i.i < length c.loop-i.out = omega arith in rw get_or-set_same c.cell_byte.ensures)
 
 pub returns : goal.returns
 returns c =

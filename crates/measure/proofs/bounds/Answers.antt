@@ -7,4 +7,4 @@ pub returns-then-s-eq0 : goal.returns-then-s-eq0
 returns-then-s-eq0 c = bounds_empty (mem c.args.words.now) c.args.s c.if-s-eq0.true
 
 pub returns : goal.returns
-returns c = bounds_box (mem c.args.words.now) c.args.s c.to-bounds.result (omega arith) (c.to-bounds.ensures ∙ c.enclose.ensures.tight)
+returns c = bounds_box (mem c.args.words.now) c.args.s c.to_bounds.result (omega arith) (c.to_bounds.ensures ∙ c.enclose.ensures.tight)

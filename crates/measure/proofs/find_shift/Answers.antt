@@ -15,5 +15,5 @@ returns-then-not-along c =
 
 pub returns : goal.returns
 returns c =
-    some_moved (mem c.args.words.now) c.args.a c.args.b c.first-shift.result.dx c.first-shift.result.dy c.if-a-b.false (omega arith)
-    (λ k h. c.loop-i.invariant k (omega arith)) c.first-shift.ensures.across c.first-shift.ensures.down
+    some_moved (mem c.args.words.now) c.args.a c.args.b c.first_shift.result.dx c.first_shift.result.dy c.if-a-b.false (omega arith)
+    (λ k h. c.loop-i.invariant k (omega arith)) c.first_shift.ensures.across c.first_shift.ensures.down

@@ -7,4 +7,4 @@ pub returns-then-s-eq0 : goal.returns-then-s-eq0
 returns-then-s-eq0 c = reach_empty (mem c.args.words.now) c.args.s c.args.n c.if-s-eq0.true
 
 pub returns : goal.returns
-returns c = c.stays-inside.ensures ∙ reach_leb (mem c.args.words.now) c.args.s c.args.n c.farthest-out.result (omega arith) c.farthest-out.ensures
+returns c = c.stays_inside.ensures ∙ reach_leb (mem c.args.words.now) c.args.s c.args.n c.farthest_out.result (omega arith) c.farthest_out.ensures

@@ -18,8 +18,8 @@ loop-t-init c = (
   searching_start (law c.args.rule) (cells_in (mem c.args.words.now) c.args.home) c.args.bound,
 )
 
-pub next-stage-requires : goal.next-stage-requires
-next-stage-requires c =
+pub next_stage-requires : goal.next_stage-requires
+next_stage-requires c =
     let i = c.loop-t.invariant in let t = c.loop-t-test.true in let b = c.from-in-loop-t.ensures in
     let fit = subst T (c.if-not-fits.ensures ∙ ap (λ (n : ℕ). reach n (cells_in (mem c.args.words.now) c.args.home)) c.from.ensures) tt in
     record {
@@ -29,9 +29,9 @@ next-stage-requires c =
       near = running_near (law c.args.rule) c.requires.good (mem c.args.words.now) (mem c.loop-t.words) c.args.home c.loop-t.last c.loop-t.t c.args.bound i.1 fit (omega (arith, t, b));
     }
 
-pub returns-in-default : goal.returns-in-default
-returns-in-default c =
-    let i = c.loop-t.invariant in let e = c.in-default.ensures in let t = c.loop-t-test.true in let b = c.from-in-loop-t.ensures in
+pub returns-in_default : goal.returns-in_default
+returns-in_default c =
+    let i = c.loop-t.invariant in let e = c.in_default.ensures in let t = c.loop-t-test.true in let b = c.from-in-loop-t.ensures in
     let fit = subst T (c.if-not-fits.ensures ∙ ap (λ (n : ℕ). reach n (cells_in (mem c.args.words.now) c.args.home)) c.from.ensures) tt in
     record {
       same = e.same ∙ i.0;
@@ -39,21 +39,21 @@ returns-in-default c =
       recurs = (fit, running_full (law c.args.rule) (mem c.args.words.now) (mem c.loop-t.words) c.args.home c.loop-t.last c.loop-t.t c.args.bound i.1 (omega (arith, t, b)) e.made);
     }
 
-pub returns-in-Some-find-shift : goal.returns-in-Some-find-shift
-returns-in-Some-find-shift c =
+pub returns-in-Some-find_shift : goal.returns-in-Some-find_shift
+returns-in-Some-find_shift c =
     let i = c.loop-t.invariant in let e = c.in-Some.ensures in let t = c.loop-t-test.true in let b = c.from-in-loop-t.ensures in
     let fit = subst T (c.if-not-fits.ensures ∙ ap (λ (n : ℕ). reach n (cells_in (mem c.args.words.now) c.args.home)) c.from.ensures) tt in
-    let k = kept_trans i.1.kept e.home in let then = cells_in (mem c.next-stage.new.words) c.in-Some.then in
-    let fx : SFits w64 c.in-Some-find-shift.shift.dx = search rules in let fy : SFits w64 c.in-Some-find-shift.shift.dy = search rules in
-    let ex = to_z-of_z w64 c.in-Some-find-shift.shift.dx fx in let ey = to_z-of_z w64 c.in-Some-find-shift.shift.dy fy in
+    let k = kept_trans i.1.kept e.home in let then = cells_in (mem c.next_stage.new.words) c.in-Some.then in
+    let fx : SFits w64 c.in-Some-find_shift.shift.dx = search rules in let fy : SFits w64 c.in-Some-find_shift.shift.dy = search rules in
+    let ex = to_z-of_z w64 c.in-Some-find_shift.shift.dx fx in let ey = to_z-of_z w64 c.in-Some-find_shift.shift.dy fy in
     record {
       same = e.same ∙ i.0;
       kept = k;
       recurs = (
         fit,
         (λ j. Some (record { t = c.loop-t.t + 1; dx = ex j; dy = ey j })) ∙
-            searching_found (law c.args.rule) (cells_in (mem c.args.words.now) c.args.home) (cells_in (mem c.loop-t.words) c.loop-t.last) then c.args.bound c.loop-t.t (c.loop-t.t + 1) c.in-Some-find-shift.shift i.3 (omega (arith, t, b)) e.made.1 refl
-            (λ u go. ap (λ (cs : List Cell). returned u cs then go) (sym k.same) ∙ c.in-Some-find-shift.ensures u go),
+            searching_found (law c.args.rule) (cells_in (mem c.args.words.now) c.args.home) (cells_in (mem c.loop-t.words) c.loop-t.last) then c.args.bound c.loop-t.t (c.loop-t.t + 1) c.in-Some-find_shift.shift i.3 (omega (arith, t, b)) e.made.1 refl
+            (λ u go. ap (λ (cs : List Cell). returned u cs then go) (sym k.same) ∙ c.in-Some-find_shift.ensures u go),
       );
     }
 
@@ -61,7 +61,7 @@ pub returns-then-same : goal.returns-then-same
 returns-then-same c =
     let i = c.loop-t.invariant in let e = c.in-Some.ensures in let t = c.loop-t-test.true in let b = c.from-in-loop-t.ensures in
     let fit = subst T (c.if-not-fits.ensures ∙ ap (λ (n : ℕ). reach n (cells_in (mem c.args.words.now) c.args.home)) c.from.ensures) tt in
-    let k = kept_trans i.1.kept e.home in let then = cells_in (mem c.next-stage.new.words) c.in-Some.then in
+    let k = kept_trans i.1.kept e.home in let then = cells_in (mem c.next_stage.new.words) c.in-Some.then in
     record {
       same = e.same ∙ i.0;
       kept = k;
@@ -69,19 +69,19 @@ returns-then-same c =
         fit,
         searching_still (law c.args.rule) (cells_in (mem c.args.words.now) c.args.home) (cells_in (mem c.loop-t.words) c.loop-t.last) then c.args.bound c.loop-t.t i.3 (omega (arith, t, b)) e.made.1
             (sym e.last.same ∙ same_cells_lem _ _ (subst T c.if-same.ensures tt))
-            (λ u go. ap (λ (cs : List Cell). returned u cs then go) (sym k.same) ∙ c.in-default-find-shift.ensures u go),
+            (λ u go. ap (λ (cs : List Cell). returned u cs then go) (sym k.same) ∙ c.in_default-find_shift.ensures u go),
       );
     }
 
 pub loop-t-preserved : goal.loop-t-preserved
 loop-t-preserved c =
     let i = c.loop-t.invariant in let e = c.in-Some.ensures in let t = c.loop-t-test.true in let b = c.from-in-loop-t.ensures in
-    let k = kept_trans i.1.kept e.home in let then = cells_in (mem c.next-stage.new.words) c.in-Some.then in (
+    let k = kept_trans i.1.kept e.home in let then = cells_in (mem c.next_stage.new.words) c.in-Some.then in (
       e.same ∙ i.0,
-      running_next (law c.args.rule) (mem c.args.words.now) (mem c.loop-t.words) (mem c.next-stage.new.words) c.args.home c.loop-t.last c.in-Some.then c.loop-t.t i.1 e.home e.made.0 e.made.1,
+      running_next (law c.args.rule) (mem c.args.words.now) (mem c.loop-t.words) (mem c.next_stage.new.words) c.args.home c.loop-t.last c.in-Some.then c.loop-t.t i.1 e.home e.made.0 e.made.1,
       omega (arith, t, b),
       searching_on (law c.args.rule) (cells_in (mem c.args.words.now) c.args.home) (cells_in (mem c.loop-t.words) c.loop-t.last) then c.args.bound c.loop-t.t i.3 (omega (arith, t, b)) e.made.1
-          (λ u go. ap (λ (cs : List Cell). returned u cs then go) (sym k.same) ∙ c.in-default-find-shift.ensures u go),
+          (λ u go. ap (λ (cs : List Cell). returned u cs then go) (sym k.same) ∙ c.in_default-find_shift.ensures u go),
     )
 
 pub returns : goal.returns

@@ -7,8 +7,8 @@ use Rattle.runs.proofs.run_list.Goals as goal
 pub loop-done-init : goal.loop-done-init
 loop-done-init c = (refl, running_start (law c.args.rule) (mem c.args.words.now) c.args.home c.requires.staged, omega arith)
 
-pub next-stage-requires : goal.next-stage-requires
-next-stage-requires c =
+pub next_stage-requires : goal.next_stage-requires
+next_stage-requires c =
     let i = c.loop-done.invariant in
     record {
       home = i.1.kept.staged;
@@ -17,9 +17,9 @@ next-stage-requires c =
       near = running_near (law c.args.rule) c.requires.good (mem c.args.words.now) (mem c.loop-done.words) c.args.home c.loop-done.last c.loop-done.done c.args.n i.1 (subst T c.if-not-fits.ensures tt) c.loop-done-test.true;
     }
 
-pub returns-in-default : goal.returns-in-default
-returns-in-default c =
-    let i = c.loop-done.invariant in let e = c.in-default.ensures in
+pub returns-in_default : goal.returns-in_default
+returns-in_default c =
+    let i = c.loop-done.invariant in let e = c.in_default.ensures in
     record {
       same = e.same ∙ i.0;
       kept = kept_trans i.1.kept e.home;
@@ -38,7 +38,7 @@ returns-then-same c =
       ran = (
         subst T c.if-not-fits.ensures tt,
         e.last.staged,
-        running_still (law c.args.rule) (mem c.args.words.now) (mem c.loop-done.words) (mem c.next-stage.new.words) c.args.home c.loop-done.last c.in-Some.then c.loop-done.done c.args.n i.1 e.last e.made.1 (omega (arith, t)) (subst T c.if-same.ensures tt),
+        running_still (law c.args.rule) (mem c.args.words.now) (mem c.loop-done.words) (mem c.next_stage.new.words) c.args.home c.loop-done.last c.in-Some.then c.loop-done.done c.args.n i.1 e.last e.made.1 (omega (arith, t)) (subst T c.if-same.ensures tt),
       );
     }
 
@@ -46,6 +46,6 @@ pub loop-done-preserved : goal.loop-done-preserved
 loop-done-preserved c =
     let i = c.loop-done.invariant in let e = c.in-Some.ensures in let t = c.loop-done-test.true in (
       e.same ∙ i.0,
-      running_next (law c.args.rule) (mem c.args.words.now) (mem c.loop-done.words) (mem c.next-stage.new.words) c.args.home c.loop-done.last c.in-Some.then c.loop-done.done i.1 e.home e.made.0 e.made.1,
+      running_next (law c.args.rule) (mem c.args.words.now) (mem c.loop-done.words) (mem c.next_stage.new.words) c.args.home c.loop-done.last c.in-Some.then c.loop-done.done i.1 e.home e.made.0 e.made.1,
       omega (arith, t),
     )
