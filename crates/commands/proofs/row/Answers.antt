@@ -5,7 +5,7 @@ use Rattle.commands.proofs.Writing.{row_small, row_is}
 use Rattle.commands.proofs.row.Goals as goal
 
 pub draw-requires : goal.draw-requires
-draw-requires g c κs k h = row_small _ _ _ _ c.row.new.out c.row.ensures k
+draw-requires g c k h = row_small _ _ _ _ c.row.new.out c.row.ensures k
 
 pub returns : goal.returns
 returns g c =
