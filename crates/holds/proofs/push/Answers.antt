@@ -11,7 +11,7 @@ use Rattle.holds.proofs.push.Goals as goal
 pub returns : goal.returns
 returns c =
     let v = c.args.store.now in let a = v.at in let n = v.slots in let t = v.top in let m = mem v in let i = c.args.number in
-    let e = c.set-held.ensures in let u = e.fixed in let r = c.requires.room in
+    let e = c.set_held.ensures in let u = e.fixed in let r = c.requires.room in
     let g = good_slots a n t (t + 1) v.left m (set m (a + t) i) c.requires.good (push_slots a t i m r) (omega arith) (push_held a n t v.left i m c.requires.good c.requires.square.0 c.requires.square.1 r) in
     record {
       same = e.same;

@@ -5,5 +5,5 @@ use Rattle.mark.proofs.+mark_mark_pair.Given as goal
 abbrev pub decreases-mark : goal.decreases-mark
 decreases-mark l = 2 * l.depth
 
-abbrev pub decreases-mark-pair : goal.decreases-mark-pair
-decreases-mark-pair l = 2 * l.depth + 1
+abbrev pub decreases-mark_pair : goal.decreases-mark_pair
+decreases-mark_pair l = 2 * l.depth + 1

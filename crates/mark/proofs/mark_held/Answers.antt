@@ -17,8 +17,8 @@ state-requires c =
     let h = held_has p.laid p.held i.1 i.3 c.loop-k.k c.loop-k-test.true c.held-number.ensures in
     record { laid = laid_fixed i.1 p.laid; within = h.0 }
 
-pub overflow-sub-depth : goal.overflow-sub-depth
-overflow-sub-depth c =
+pub overflow_sub-depth : goal.overflow_sub-depth
+overflow_sub-depth c =
     let p = c.requires in let i = c.loop-k.invariant in let e = c.state.ensures in
     let h = held_has p.laid p.held i.1 i.3 c.loop-k.k c.loop-k-test.true c.held-number.ensures in
     omega (arith, h.1)

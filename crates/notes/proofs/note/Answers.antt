@@ -22,8 +22,8 @@ pub returns : goal.returns
 returns c =
     let v = c.args.store.now in let a = v.at in let n = v.slots in let m = mem v in let i = c.args.number in let e = c.args.exponent in let p = c.args.depth in
     let f = field_for e p in let x = note_for c.args.rule e c.args.leap in
-    let lo = field_low e p in let hi = field_high e p in let s = c.set-word.ensures in let u = s.fixed in
-    let w : mem c.set-word.new.self ≡ put a m i f x = s.after ∙ (λ k. put a m i (c.field.ensures k) (c.pack.ensures k)) in
+    let lo = field_low e p in let hi = field_high e p in let s = c.set_word.ensures in let u = s.fixed in
+    let w : mem c.set_word.new.self ≡ put a m i f x = s.after ∙ (λ k. put a m i (c.field.ensures k) (c.pack.ensures k)) in
     let d = depth_small a n m (suc p) i c.requires.square.0 in let few = c.requires.good.0.laid.few in let here = c.requires.leap.valid.here in
     let r = packed_right n (table v) c.args.rule e p i c.args.leap c.requires.good.1 (omega arith) (omega arith) c.requires.leap in
     record {

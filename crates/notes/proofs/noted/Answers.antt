@@ -11,8 +11,8 @@ field-requires c =
     let v = c.args.store.now in let d = depth_small v.at v.slots (mem v) (suc c.args.depth) c.args.number c.requires.square.0 in
     omega arith
 
-pub overflow-add-exponent : goal.overflow-add-exponent
-overflow-add-exponent c =
+pub overflow_add-exponent : goal.overflow_add-exponent
+overflow_add-exponent c =
     let v = c.args.store.now in let d = depth_small v.at v.slots (mem v) (suc c.args.depth) c.args.number c.requires.square.0 in
     omega arith
 

@@ -43,16 +43,16 @@ unfolding Found
 returns-else-store-eq0 c =
     let v = c.args.store.now in let x = c.args.node in let a = v.at in let n = v.slots in
     let w = c.fill.new.store in let e = c.fill.ensures in let f = e.filled in let fit = c.in-New.ensures in
-    let g = good_put a n v.top v.left (v.left - 1) (mem v) (mem w) x c.in-New.slot c.count-of-count.result c.requires.good (let z = c.if-store-eq0.false in omega arith) c.requires.proper fit f c.count-of-count.ensures in
+    let g = good_put a n v.top v.left (v.left - 1) (mem v) (mem w) x c.in-New.slot c.count_of-count.result c.requires.good (let z = c.if-store-eq0.false in omega arith) c.requires.proper fit f c.count_of-count.ensures in
     let u = e.fixed in
     record {
       same = e.same;
       cut = record { at = u.at; slots = u.slots; top = u.top; long = u.long };
       good = good_eq u.at u.slots u.top (ap (λ (k : ℕ). k - 1) u.left) refl g;
       added = record {
-        grown = record { front = f.front; grows = grows_put a n c.in-New.slot x c.count-of-count.result (mem v) (mem w) c.requires.good.sound c.requires.proper fit f };
+        grown = record { front = f.front; grows = grows_put a n c.in-New.slot x c.count_of-count.result (mem v) (mem w) c.requires.good.sound c.requires.proper fit f };
         given = λ d s. subst (λ (k : ℕ). IsAt n (view k (mem w)) d c.in-New.slot (square_in (table v) d x)) (sym u.at)
-            (is_here (put_of a n c.in-New.slot x c.count-of-count.result (mem v) (mem w) c.requires.good.sound c.requires.proper fit f) d s);
+            (is_here (put_of a n c.in-New.slot x c.count_of-count.result (mem v) (mem w) c.requires.good.sound c.requires.proper fit f) d s);
       };
     }
 

@@ -7,8 +7,8 @@ use Rattle.probe.proofs.count_of.Goals as goal
 pub returns-then-node-eq2 : goal.returns-then-node-eq2
 returns-then-node-eq2 c = λ d e. c.from.ensures ∙ c.count.ensures ∙ leaf_count (table c.args.store.now) c.args.node c.if-node-eq2.true d e
 
-pub sum-counts-requires : goal.sum-counts-requires
-sum-counts-requires c = let s = c.args.store.now in
+pub sum_counts-requires : goal.sum_counts-requires
+sum_counts-requires c = let s = c.args.store.now in
     record {
       laid = c.requires.good.laid;
       within = subst (Countable s.at s.slots (mem s)) (sym c.quarters.ensures)
@@ -18,5 +18,5 @@ sum-counts-requires c = let s = c.args.store.now in
 pub returns : goal.returns
 returns c = λ d e.
     let s = c.args.store.now in
-    c.sum-counts.ensures ∙ ap (counts_of s.at (mem s)) c.quarters.ensures ∙
+    c.sum_counts.ensures ∙ ap (counts_of s.at (mem s)) c.quarters.ensures ∙
     four_count s.at s.slots s.top s.left (mem s) c.args.node c.requires.good c.requires.proper c.if-node-eq2.false d e

@@ -8,8 +8,8 @@ use Rattle.probe.proofs.fill.Goals as goal
 pub returns : goal.returns
 returns c =
     let s = c.args.slot in let x = c.args.node in let n = c.args.count in let a = c.args.store.now.at in
-    let w1 = c.set-word.ensures in let w2 = c.set-word-2.ensures in let w3 = c.set-word-3.ensures in let w4 = c.set-word-4.ensures in
-    let w5 = c.set-word-5.ensures in let w6 = c.set-word-6.ensures in let w7 = c.set-word-7.ensures in
+    let w1 = c.set_word.ensures in let w2 = c.set_word-2.ensures in let w3 = c.set_word-3.ensures in let w4 = c.set_word-4.ensures in
+    let w5 = c.set_word-5.ensures in let w6 = c.set_word-6.ensures in let w7 = c.set_word-7.ensures in
     let a1 = w1.fixed.at in let a2 = w2.fixed.at ∙ a1 in let a3 = w3.fixed.at ∙ a2 in let a4 = w4.fixed.at ∙ a3 in let a5 = w5.fixed.at ∙ a4 in let a6 = w6.fixed.at ∙ a5 in
     let e1 = w1.after in let e2 = w2.after ∙ (λ t. put (a1 t) (e1 t) s 1 x.upper) in let e3 = w3.after ∙ (λ t. put (a2 t) (e2 t) s 2 x.lower) in
     let e4 = w4.after ∙ (λ t. put (a3 t) (e3 t) s 3 0) in let e5 = w5.after ∙ (λ t. put (a4 t) (e4 t) s 4 0) in

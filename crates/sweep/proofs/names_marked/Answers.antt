@@ -10,4 +10,4 @@ pub returns-then-number-store : goal.returns-then-number-store
 returns-then-number-store c = let s = c.args.store.now in naming_beyond s.at s.slots (mem s) c.args.note c.if-note-eq0.false c.if-number-store.true
 
 pub returns : goal.returns
-returns c = let s = c.args.store.now in c.is-marked.ensures ∙ naming_tag s.at s.slots (mem s) c.args.note c.if-note-eq0.false c.if-number-store.false
+returns c = let s = c.args.store.now in c.is_marked.ensures ∙ naming_tag s.at s.slots (mem s) c.args.note c.if-note-eq0.false c.if-number-store.false

@@ -8,24 +8,24 @@ use Rattle.sweep.proofs.retag.Goals as goal
 pub loop-slot-init : goal.loop-slot-init
 loop-slot-init c = retagging_start c.args.store.now
 
-pub is-marked-requires : goal.is-marked-requires
-is-marked-requires c =
+pub is_marked-requires : goal.is_marked-requires
+is_marked-requires c =
     let i = c.loop-slot.invariant.fixed in let t = c.loop-slot-test.true in let l = c.loop-slot.auto.slot in record { laid = laid_fixed i c.requires.laid; within = omega arith }
 
-pub loop-slot-preserved-then-is-marked : goal.loop-slot-preserved-then-is-marked
-loop-slot-preserved-then-is-marked c =
-    let a = c.set-word.ensures in
-    retagging_kept c.requires.laid c.loop-slot-test.true c.loop-slot.auto.slot c.loop-slot.invariant c.if-is-marked.ensures c.node-node.ensures c.home.ensures.is c.min-least.ensures a.same a.fixed a.after
+pub loop-slot-preserved-then-is_marked : goal.loop-slot-preserved-then-is_marked
+loop-slot-preserved-then-is_marked c =
+    let a = c.set_word.ensures in
+    retagging_kept c.requires.laid c.loop-slot-test.true c.loop-slot.auto.slot c.loop-slot.invariant c.if-is_marked.ensures c.node-node.ensures c.home.ensures.is c.min-least.ensures a.same a.fixed a.after
 
 pub loop-slot-preserved-then-passes : goal.loop-slot-preserved-then-passes
 loop-slot-preserved-then-passes c =
-    let a = c.set-word-then-passes.ensures in
-    retagging_free c.requires.laid c.requires.found c.loop-slot-test.true c.loop-slot.auto.slot c.loop-slot.invariant c.if-is-marked.ensures c.if-passes.ensures refl a.same a.fixed a.after
+    let a = c.set_word-then-passes.ensures in
+    retagging_free c.requires.laid c.requires.found c.loop-slot-test.true c.loop-slot.auto.slot c.loop-slot.invariant c.if-is_marked.ensures c.if-passes.ensures refl a.same a.fixed a.after
 
 pub loop-slot-preserved : goal.loop-slot-preserved
 loop-slot-preserved c =
-    let a = c.set-word-else-passes.ensures in
-    retagging_free c.requires.laid c.requires.found c.loop-slot-test.true c.loop-slot.auto.slot c.loop-slot.invariant c.if-is-marked.ensures c.if-passes.ensures refl a.same a.fixed a.after
+    let a = c.set_word-else-passes.ensures in
+    retagging_free c.requires.laid c.requires.found c.loop-slot-test.true c.loop-slot.auto.slot c.loop-slot.invariant c.if-is_marked.ensures c.if-passes.ensures refl a.same a.fixed a.after
 
 pub returns : goal.returns
 returns c =

@@ -12,8 +12,8 @@ use Rattle.sweep.proofs.sweep.Goals as goal
 pub retag-requires : goal.retag-requires
 retag-requires c = let e = c.trim-survey.ensures in record { laid = laid_fixed e.fixed c.requires.laid; found = found_after e.fixed e.trimmed e.found }
 
-pub overflow-sub-store-2 : goal.overflow-sub-store-2
-overflow-sub-store-2 c =
+pub overflow_sub-store-2 : goal.overflow_sub-store-2
+overflow_sub-store-2 c =
     let e = c.trim-survey.ensures in let n = e.found.count in let f = (fixed_trans e.fixed c.retag.ensures.fixed).slots in let q = marks_limit c.requires in
     omega arith
 

@@ -9,29 +9,29 @@ use Rattle.slots.proofs.Stores.{laid_fixed}
 use Rattle.sweep.proofs.Reach.{marks_few}
 use Rattle.sweep.proofs.FirstPass.{Trimming, trimming_start, trimming_skip, trimming_more}
 use Rattle.sweep.proofs.trim.Goals as goal
-use Rattle.sweep.proofs.trim.Goals.{then-is-marked, else-is-marked}
+use Rattle.sweep.proofs.trim.Goals.{then-is_marked, else-is_marked}
 
 pub loop-slot-init : goal.loop-slot-init
 loop-slot-init c = trimming_start c.args.store.now
 
-pub is-marked-requires : goal.is-marked-requires
-is-marked-requires c = let i = c.loop-slot.invariant.fixed in let t = c.loop-slot-test.true in record { laid = laid_fixed i c.requires; within = omega arith }
+pub is_marked-requires : goal.is_marked-requires
+is_marked-requires c = let i = c.loop-slot.invariant.fixed in let t = c.loop-slot-test.true in record { laid = laid_fixed i c.requires; within = omega arith }
 
-pub trim-note-requires : goal.trim-note-requires
-trim-note-requires c = let i = c.loop-slot.invariant.fixed in let t = c.loop-slot-test.true in record { laid = laid_fixed i c.requires; within = (omega arith, omega arith) }
+pub trim_note-requires : goal.trim_note-requires
+trim_note-requires c = let i = c.loop-slot.invariant.fixed in let t = c.loop-slot-test.true in record { laid = laid_fixed i c.requires; within = (omega arith, omega arith) }
 
-pub with-slot-survey-requires : goal.with-slot-survey-requires
-with-slot-survey-requires c =
+pub with_slot-survey-requires : goal.with_slot-survey-requires
+with_slot-survey-requires c =
     let e = c.loop-slot.invariant.found.count in let f = marks_few (tag c.args.store.now.at (mem c.args.store.now)) c.loop-slot.slot in let t = c.loop-slot-test.true in let g = c.requires.few in
     (omega arith, omega arith)
 
 pub loop-slot-preserved : goal.loop-slot-preserved
-loop-slot-preserved c = elim c.if-is-marked.branch [
-  | then-is-marked w ↦ let a = w.trim-note.ensures in let b = w.trim-note-then-is-marked.ensures in
+loop-slot-preserved c = elim c.if-is_marked.branch [
+  | then-is_marked w ↦ let a = w.trim_note.ensures in let b = w.trim_note-then-is_marked.ensures in
       subst₂ (λ (s : Store) (x : Survey). Trimming c.args.store.now s (c.loop-slot.slot + 1) x) (sym w.store-is) (sym w.survey-is)
-      (trimming_more c.requires c.loop-slot-test.true c.loop-slot.invariant w.if-is-marked.ensures a.same a.fixed a.after b.same b.fixed b.after w.node.ensures w.home.ensures.is w.with-slot-survey.ensures)
-  | else-is-marked w ↦
-      subst₂ (λ (s : Store) (x : Survey). Trimming c.args.store.now s (c.loop-slot.slot + 1) x) (sym w.store-is) (sym w.survey-is) (trimming_skip c.loop-slot.invariant w.if-is-marked.ensures)
+      (trimming_more c.requires c.loop-slot-test.true c.loop-slot.invariant w.if-is_marked.ensures a.same a.fixed a.after b.same b.fixed b.after w.node.ensures w.home.ensures.is w.with_slot-survey.ensures)
+  | else-is_marked w ↦
+      subst₂ (λ (s : Store) (x : Survey). Trimming c.args.store.now s (c.loop-slot.slot + 1) x) (sym w.store-is) (sym w.survey-is) (trimming_skip c.loop-slot.invariant w.if-is_marked.ensures)
 ]
 
 pub returns : goal.returns
