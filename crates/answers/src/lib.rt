@@ -1,4 +1,6 @@
 // Answers as text: each function writes at a place in a lent buffer, and gives the place after what it wrote.
+#![tactic(auto)]
+
 ghost use Rattle.std.specs.Prelude.{◌+◌, ◌<◌, ◌≤◌, [], ◌∷◌, length, decimal};
 ghost use Rattle.std.specs.Fmt.{signed_decimal as signed_text};
 ghost use Rattle.answers.specs.Wrote.{Wrote};

@@ -1,4 +1,6 @@
 // The calls of a plane in lent memory.
+#![tactic(auto)]
+
 ghost use Rattle.std.specs.Prelude.{◌≡◌, List, [], ℕ, T, length};
 ghost use Rattle.model.specs.declared.Refusal.TheVariants.{BadMemory};
 ghost use Rattle.model.specs.Rules.{good_rule, rule_of};

@@ -1,14 +1,13 @@
 -- A cell put into a list, or erased from it, by moving those behind it.
-use Rattle.std.proofs.Common.{◌≡◌, ℕ, zero, suc, ◌+◌, ◌-◌, ◌*◌, ◌<◌, ◌≤◌, Bool, true, false, cond, not, T, ◌≢◌, ◌⊎◌, List, length, ℤ, sym, refl, ap, ◌∙◌, subst, inl, inr, add-one, arith}
+use Rattle.std.proofs.Common.{◌≡◌, ℕ, ◌+◌, ◌-◌, ◌<◌, ◌≤◌, Bool, true, false, cond, not, T, ◌≢◌, ◌⊎◌, List, length, ℤ, sym, ap, ◌∙◌, subst, inl, inr, arith}
 use native.Mathlib.Decide.{dec_lt}
 use borrow.Author.Differences.{ints}
 use Rattle.model.specs.Cells.{Cell, cell_at, before, same_cell, in_order, lives, put}
-use Rattle.model.proofs.Order.{bool_same, before_trans, before_irrefl, lists_same, same_cell_in, same_cell_out, if_so, decided}
+use Rattle.model.proofs.Order.{bool_same, before_irrefl, lists_same, same_cell_in, same_cell_out, if_so}
 use Rattle.model.proofs.Put.{put_order, put_lives}
 use Rattle.lent.specs.declared.Stretch.{Stretch}
 use Rattle.lent.specs.Stretches.{to_z, tab, entry, row_at, col_at, cells_in, with_entry, room_words, room_cells, Listed, Beside}
-use Rattle.lent.proofs.Tab.{Has, tab_out, tab_in, tab_order, order_tab}
-use Rattle.lent.proofs.Listing.{to_z_inj}
+use Rattle.lent.proofs.Tab.{tab_out, tab_in, tab_order, order_tab}
 use Rattle.lent.proofs.Writing.{written_beside, written_here, written_entry, beside_trans}
 use Rattle.cells.proofs.Finds.{place_holds}
 use Rattle.cells.specs.Places.{Earlier, Later, Place, Holds, Raised, Lowered, cell_of_words, longer, shorter}

@@ -1,13 +1,13 @@
 -- To find a cell by halving.
-use Rattle.std.proofs.Common.{◌≡◌, ℕ, suc, ◌+◌, ◌-◌, ◌*◌, ◌/◌, ◌^◌, ◌<◌, ◌≤◌, Bool, true, false, T, ltb, ◌⊎◌, List, ℤ, MatchBool, sym, refl, ap, ◌∙◌, subst, inl, inr, arith}
+use Rattle.std.proofs.Common.{◌≡◌, ℕ, ◌+◌, ◌-◌, ◌/◌, ◌<◌, ◌≤◌, Bool, true, false, T, ◌⊎◌, List, ℤ, MatchBool, sym, ap, ◌∙◌, subst, inl, inr, arith}
 use native.Mathlib.Decide.{dec_lt}
-use Rattle.model.specs.Cells.{Cell, lives}
+use Rattle.model.specs.Cells.{lives}
 use Rattle.model.specs.World.{far, size, edge}
 use Rattle.model.proofs.Order.{bool_same}
 use Rattle.model.proofs.Reach.{far_out}
 use Rattle.lent.specs.declared.Stretch.{Stretch}
 use Rattle.lent.specs.Stretches.{to_z, row_at, col_at, cells_in, Listed}
-use Rattle.lent.proofs.Listing.{to_z_inj, listed_order, listed_lives, listed_find, Found}
+use Rattle.lent.proofs.Listing.{to_z_inj, listed_order, listed_lives, listed_find}
 use Rattle.cells.specs.Places.{Earlier, Later, Place, Holds}
 
 pub earlier_down : (m : List ℕ) (s : Stretch) → Listed m s → (row col j k : ℕ) → j ≤ k → k < s.len → Earlier m s k row col → Earlier m s j row col

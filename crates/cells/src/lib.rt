@@ -1,4 +1,6 @@
 // Ordered lists of cells in stretches of lent words: to find a cell, to put or erase one, to read a row.
+#![tactic(auto)]
+
 ghost use Rattle.std.specs.Prelude.{◌≡◌, ℕ, ◌+◌, ◌*◌, ◌<◌, ◌≤◌, true, false, length, pos, ◌+ℤ◌, if◌then◌else◌, MatchBool};
 ghost use Rattle.model.specs.World.{far, bits};
 ghost use Rattle.model.specs.Cells.{lives, put};

@@ -1,4 +1,6 @@
 // What a line that is typed does to a plane, and what is answered to it.
+#![tactic(auto)]
+
 mod replies;
 
 ghost use Rattle.std.specs.Prelude.{◌≡◌, ℕ, ◌^◌, ◌≤◌, length, take, ℤ};

@@ -14,11 +14,11 @@ pub fn write_refusal(out: &mut [u8], refusal: Refusal) -> usize
     number(out, at, u64::from(refusal.number()))
 }
 
-pub fn write_outcome(out: &mut [u8], res: Result<(), Refusal>) -> usize
+pub fn write_outcome(out: &mut [u8], done: Result<(), Refusal>) -> usize
     requires { 128 ≤ length out.old }
-    ensures { Holds out.new result (outcome res) }
+    ensures { Holds out.new result (outcome done) }
 {
-    match res {
+    match done {
         Ok(()) => text(out, 0, b"done"),
         Err(refusal) => write_refusal(out, refusal),
     }
@@ -58,11 +58,11 @@ fn write_return(out: &mut [u8], p: Period) -> usize
     write_also(out, dy, p.dy)
 }
 
-pub fn write_period(out: &mut [u8], res: Result<Option<Period>, Refusal>) -> usize
+pub fn write_period(out: &mut [u8], found: Result<Option<Period>, Refusal>) -> usize
     requires { 128 ≤ length out.old }
-    ensures { Holds out.new result (period_text res) }
+    ensures { Holds out.new result (period_text found) }
 {
-    match res {
+    match found {
         Ok(Some(p)) => write_return(out, p),
         Ok(None) => text(out, 0, b"period none"),
         Err(refusal) => write_refusal(out, refusal),

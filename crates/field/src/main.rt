@@ -1,4 +1,6 @@
 // Reads commands from standard input, a line each, and prints the answer to each.
+#![tactic(auto)]
+
 ghost use Rattle.std.specs.Prelude.{◌<◌, length};
 ghost use Rattle.commands.specs.Says.{answer_bytes};
 

@@ -1,11 +1,11 @@
 -- A cursor tells whether the cell in its column lives, and moves on.
-use Rattle.std.proofs.Common.{◌≡◌, ℕ, suc, ◌+◌, ◌-◌, ◌*◌, ◌^◌, ◌<◌, ◌≤◌, Bool, true, false, cond, T, eqb, ltb, ◌⊎◌, List, sym, refl, ap, ◌∙◌, subst, inl, inr, arith}
+use Rattle.std.proofs.Common.{◌≡◌, ℕ, ◌+◌, ◌-◌, ◌*◌, ◌^◌, ◌<◌, ◌≤◌, true, false, T, eqb, ◌⊎◌, List, sym, ap, ◌∙◌, subst, inl, inr, arith}
 use native.Mathlib.Decide.{dec_lt}
 use Rattle.model.specs.Cells.{lives}
 use Rattle.model.proofs.Order.{bool_same}
 use Rattle.lent.specs.declared.Stretch.{Stretch}
 use Rattle.lent.specs.Stretches.{to_z, row_at, col_at, cells_in, Listed}
-use Rattle.lent.proofs.Listing.{to_z_inj, listed_order, listed_near, listed_lives, listed_find, Found}
+use Rattle.lent.proofs.Listing.{to_z_inj, listed_order, listed_near, listed_lives, listed_find}
 use Rattle.generation.specs.declared.scan.Cursor.{Cursor}
 use Rattle.generation.specs.Scan.{head_of, CursorAt}
 

@@ -1,8 +1,8 @@
 -- The list that is made, up to a cell: one more cell, or cells passed over that don't live.
-use Rattle.std.proofs.Common.{◌≡◌, ℕ, suc, ◌+◌, ◌-◌, ◌*◌, ◌^◌, ◌<◌, ◌≤◌, Bool, true, false, cond, not, ◌&&◌, T, ◌⊎◌, List, [], ◌∷◌, ◌++◌, length, ℤ, ◌≤ℤ◌, ◌<ℤ◌, sym, refl, ap, ◌∙◌, subst, inl, inr, arith, length-append}
+use Rattle.std.proofs.Common.{◌≡◌, ◌≤◌, Bool, true, false, not, ◌&&◌, T, ◌⊎◌, List, [], ◌∷◌, ◌++◌, length, ℤ, ◌≤ℤ◌, ◌<ℤ◌, sym, ap, ◌∙◌, subst, inl, inr, arith}
 use borrow.Author.Differences.{ints}
 use lib.Signed.{le_z}
-use Rattle.model.specs.Planes.{Plane, back, ahead, step}
+use Rattle.model.specs.Planes.{Plane, ahead, step}
 use Rattle.model.specs.Rules.{Rule, good_rule, life}
 use Rattle.model.specs.Cells.{Cell, cell_at, before, in_order, lives, plane_of}
 use Rattle.model.specs.Lists.{next_of}

@@ -1,5 +1,5 @@
 -- The three rows: passing over rows without cells, moving on by one, and the window at their left.
-use Rattle.std.proofs.Common.{◌≡◌, ℕ, suc, ◌+◌, ◌-◌, ◌*◌, ◌^◌, ◌<◌, ◌≤◌, Bool, true, false, ◌&&◌, T, ◌⊎◌, List, [], ◌∷◌, length, ℤ, sym, refl, ap, ◌∙◌, subst, inl, inr, arith}
+use Rattle.std.proofs.Common.{◌≡◌, ℕ, ◌+◌, ◌-◌, ◌*◌, ◌^◌, ◌<◌, ◌≤◌, true, false, ◌&&◌, T, List, length, ℤ, sym, refl, ap, subst, inl, inr, arith}
 use native.Mathlib.Decide.{dec_lt}
 use borrow.Author.Differences.{ints}
 use Rattle.model.specs.Rules.{Rule, good_rule}
@@ -8,16 +8,15 @@ use Rattle.model.specs.Lists.{next_of}
 use Rattle.model.specs.World.{most_cells}
 use Rattle.model.proofs.Order.{bool_same, and_l, and_r}
 use Rattle.lent.specs.declared.Stretch.{Stretch}
-use Rattle.lent.specs.Stretches.{to_z, tab, row_at, col_at, cells_in, room_cells, room_words, Listed, Beside, Apart}
+use Rattle.lent.specs.Stretches.{to_z, tab, row_at, cells_in, room_cells, room_words, Listed, Beside, Apart}
 use Rattle.lent.proofs.Listing.{listed_order, listed_near}
 use Rattle.lent.proofs.Writing.{beside_entry, beside_cells}
 use Rattle.generation.specs.declared.scan.Cursor.{Cursor}
-use Rattle.generation.specs.declared.scan.Sweep.{Sweep}
 use Rattle.generation.specs.declared.scan.Rows.{Rows}
-use Rattle.generation.specs.Scan.{head_of, CursorAt, Window, Bare, RowsAt, RowsSkipped, NoRows, rows_left, Done, Progress, Full, plane_next, row_start}
+use Rattle.generation.specs.Scan.{head_of, CursorAt, Window, Bare, RowsAt, RowsSkipped, NoRows, rows_left, Progress, Full, plane_next, row_start}
 use Rattle.generation.proofs.Windows.{bare_lives, bare_column}
 use Rattle.generation.proofs.Dones.{before_out, before_row, before_column, le_or, done_skip, done_end}
-use Rattle.generation.proofs.Steps.{NearCell, near_cell, decide}
+use Rattle.generation.proofs.Steps.{near_cell, decide}
 
 -- where the cells of a row end
 pub record RowEnd (m : List ℕ) (s : Stretch) (at row r : ℕ) : Type 0 where

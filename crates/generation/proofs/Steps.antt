@@ -1,18 +1,17 @@
 -- One column after the other: what is done so far, while the list at `to` grows.
-use Rattle.std.proofs.Common.{◌≡◌, ℕ, suc, ◌+◌, ◌-◌, ◌*◌, ◌^◌, ◌<◌, ◌≤◌, Bool, true, false, cond, not, ◌&&◌, T, ltb, ◌⊎◌, List, [], ◌∷◌, ◌++◌, length, ℤ, ◌≤ℤ◌, ◌<ℤ◌, sym, refl, ap, ◌∙◌, subst, inl, inr, add-one, arith, length-append}
+use Rattle.std.proofs.Common.{◌≡◌, ℕ, ◌+◌, ◌-◌, ◌^◌, ◌<◌, ◌≤◌, Bool, true, false, cond, T, ltb, ◌⊎◌, List, [], ◌∷◌, ◌++◌, ℤ, ◌≤ℤ◌, ◌<ℤ◌, sym, ap, ◌∙◌, subst, inl, inr, add-one, arith, length-append}
 use native.Mathlib.Decide.{dec_lt}
 use borrow.Author.Differences.{ints}
 use Rattle.model.specs.Planes.{Plane, back, ahead, step}
 use Rattle.model.specs.Rules.{Rule, good_rule, life}
-use Rattle.model.specs.Cells.{Cell, cell_at, before, in_order, lives, plane_of}
-use Rattle.model.specs.Lists.{next_of}
+use Rattle.model.specs.Cells.{Cell, cell_at, before, plane_of}
 use Rattle.model.specs.World.{most_cells}
-use Rattle.model.proofs.Lists.{comes_of, By}
+use Rattle.model.proofs.Lists.{comes_of}
 use Rattle.lent.specs.declared.Stretch.{Stretch}
-use Rattle.lent.specs.Stretches.{to_z, tab, entry, row_at, col_at, cells_in, with_entry, room_words, room_cells, Listed, Beside, Apart}
+use Rattle.lent.specs.Stretches.{to_z, tab, entry, row_at, col_at, cells_in, with_entry, room_cells, Beside, Apart}
 use Rattle.lent.proofs.Tab.{tab_length}
-use Rattle.lent.proofs.Listing.{to_z_ahead, listed_near, listed_find, Found}
-use Rattle.lent.proofs.Writing.{beside_entry, beside_cells, beside_listed, beside_refl, written_beside, written_more, written_length}
+use Rattle.lent.proofs.Listing.{to_z_ahead, listed_near, listed_find}
+use Rattle.lent.proofs.Writing.{beside_entry, beside_cells, beside_listed, written_beside, written_more, written_length}
 use Rattle.generation.specs.declared.scan.Cursor.{Cursor}
 use Rattle.generation.specs.declared.scan.Sweep.{Sweep}
 use Rattle.generation.specs.Scan.{head_of, CursorAt, Window, Bare, Skipped, Done, Progress, Full, plane_next, centre_of, row_start}

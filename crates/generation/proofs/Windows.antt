@@ -1,19 +1,19 @@
 -- The window: passing over bare columns, and moving on by one.
-use Rattle.std.proofs.Common.{◌≡◌, ℕ, suc, ◌+◌, ◌-◌, ◌*◌, ◌^◌, ◌<◌, ◌≤◌, min, Bool, true, false, cond, not, T, eqb, ltb, ◌⊎◌, List, ℤ, sym, refl, ap, ◌∙◌, subst, inl, inr, arith}
+use Rattle.std.proofs.Common.{◌≡◌, ℕ, ◌+◌, ◌-◌, ◌*◌, ◌^◌, ◌<◌, ◌≤◌, min, Bool, true, false, T, eqb, ◌⊎◌, List, ℤ, sym, refl, ap, ◌∙◌, subst, inl, inr, arith}
 use native.Mathlib.Decide.{dec_lt}
 use borrow.Author.Differences.{ints}
 use mir.Val.{bool_byte}
 use Rattle.model.specs.Planes.{Plane, back, ahead, step}
 use Rattle.model.specs.Rules.{Rule, as_one, becomes, tally, life}
-use Rattle.model.specs.Cells.{Cell, lives, plane_of}
-use Rattle.model.proofs.Order.{bool_same, byte_one}
+use Rattle.model.specs.Cells.{lives, plane_of}
+use Rattle.model.proofs.Order.{byte_one}
 use Rattle.lent.specs.declared.Stretch.{Stretch}
 use Rattle.lent.specs.Stretches.{to_z, row_at, col_at, cells_in, Listed}
-use Rattle.lent.proofs.Listing.{to_z_inj, listed_near, listed_lives, listed_find, Found}
+use Rattle.lent.proofs.Listing.{to_z_inj, listed_near, listed_lives, listed_find}
 use Rattle.generation.specs.declared.scan.Cursor.{Cursor}
 use Rattle.generation.specs.declared.scan.Sweep.{Sweep}
 use Rattle.generation.specs.Scan.{CursorAt, Window, Ready, Bare, Skipped, column, weight, plane_next}
-use Rattle.generation.proofs.Cursors.{Left, head_says, at_cursor, cursor_skip}
+use Rattle.generation.proofs.Cursors.{head_says, at_cursor, cursor_skip}
 
 false_of : (b : Bool) → (T b → ⊥) → b ≡ false
 false_of true h = absurd (h tt)

@@ -1,5 +1,5 @@
 -- How the next generation of a list is worked out: row by row, and in a row column by column, through a window of three rows and three columns.
-use Rattle.std.specs.Prelude.{◌≡◌, ℕ, suc, ◌+◌, ◌-◌, ◌*◌, ◌^◌, ◌<◌, ◌≤◌, Bool, true, false, cond, ◌&&◌, T, ◌⊎◌, List, length, ℤ, Some, None, Option, nat_lt}
+use Rattle.std.specs.Prelude.{◌≡◌, ℕ, ◌+◌, ◌-◌, ◌*◌, ◌^◌, ◌<◌, ◌≤◌, Bool, true, false, cond, ◌&&◌, T, ◌⊎◌, List, length, ℤ, Some, None, Option, nat_lt}
 use Rattle.model.specs.Planes.{Plane, back, ahead, step}
 use Rattle.model.specs.Rules.{Rule, good_rule, as_one, life}
 use Rattle.model.specs.Lists.{next_of}

@@ -1,4 +1,6 @@
 // The next generation of a list of living cells. Its time goes by the cells, not by the box around them.
+#![tactic(auto)]
+
 ghost use Rattle.std.specs.Prelude.{◌≡◌, ◌+◌, ◌<◌, ◌≤◌, T, length};
 ghost use Rattle.lent.specs.Mem.{mem, Same};
 ghost use Rattle.lent.specs.Stretches.{Listed, Beside, Apart, room_words};

@@ -1,5 +1,5 @@
 -- What is right in every plane that shows four words is the leap of their square.
-use Rattle.std.proofs.Common.{◌≡◌, ℕ, suc, ◌+◌, ◌^◌, ◌<◌, ◌≤◌, Bool, true, false, T, ℤ, pos, ◌+ℤ◌, sym, refl, ap, ◌∙◌, subst, arith}
+use Rattle.std.proofs.Common.{◌≡◌, ℕ, ◌+◌, ◌<◌, Bool, false, T, pos, ◌+ℤ◌, ap, ◌∙◌, arith}
 use borrow.Author.Differences.{ints}
 use Rattle.model.specs.Planes.{Plane, always, steps}
 use Rattle.model.specs.Rules.{Rule as Law, life}

@@ -1,7 +1,7 @@
 -- The inner cells made one by one, row by row.
-use Rattle.std.proofs.Common.{◌≡◌, ℕ, ◌+◌, ◌<◌, ◌≤◌, Bool, true, false, cond, ◌&&◌, ◌||◌, eqb, ltb, ◌⊎◌, sym, refl, ◌∙◌, inl, inr, arith}
+use Rattle.std.proofs.Common.{◌≡◌, ℕ, ◌+◌, ◌<◌, ◌≤◌, Bool, false, cond, ◌&&◌, ◌||◌, eqb, ltb, ◌⊎◌, sym, ◌∙◌, inl, inr, arith}
 use mir.Val.{bool_byte}
-use Rattle.model.specs.Rules.{as_one, tally}
+use Rattle.model.specs.Rules.{tally}
 use Rattle.model.proofs.Order.{byte_one, byte_most}
 use Rattle.std.proofs.lemmas.Bool.{cases_eq}
 use Rattle.std.proofs.lemmas.Bool.Decides.{nat_tests}

@@ -1,4 +1,6 @@
 // A word of 64 bits is a square of side 8: the cell in column x of row y is bit 8y + x, and lives where that is set.
+#![tactic(auto)]
+
 ghost use Rattle.std.specs.Prelude.{◌≡◌, ℕ, ◌+◌, ◌<◌, ◌≤◌, Bool, ◌&&◌, ◌||◌, T, pos, if◌then◌else◌};
 ghost use Rattle.leaf.specs.Words.{bit, cell_in, is_at, in_row, living_in, inner, neighbours_in, next_in};
 ghost use Rattle.leaf.specs.Shown.{Shows16, Later, after};

@@ -1,4 +1,6 @@
 // Reads a rule and sixteen lines of sixteen cells, and prints the eight lines of the middle after four generations.
+#![tactic(auto)]
+
 use squaretext::{answer, middle_text};
 use std::io;
 use std::io::{Read, Write};

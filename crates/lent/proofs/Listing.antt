@@ -1,21 +1,19 @@
 -- The words of a stretch whose list is in order and not beyond the edge.
-use mathlib.Core.Path.{◌≡◌, refl, sym, ap, subst, ◌∙◌}
-use mathlib.Core.Bool.{Bool, true, false}
-use mathlib.Core.List.{List, [], ◌∷◌, ◌++◌}
-use mathlib.Core.Logic.{◌⊎◌, inl, inr}
-use Prim.Native.Nat.{ℕ, zero, suc, ◌+◌, ◌*◌, ◌^◌, ◌<◌, ◌≤◌}
+use mathlib.Core.Path.{◌≡◌, refl, ap}
+use mathlib.Core.List.{List}
+use mathlib.Core.Logic.{◌⊎◌}
+use Prim.Native.Nat.{ℕ, ◌+◌, ◌*◌, ◌^◌, ◌<◌, ◌≤◌}
 use native.Mathlib.Omega.{arith}
 use borrow.Author.Differences.{ints}
 use lib.Dec.{T}
 use lib.IntN.{ℤ}
-use lib.ListN.{length, get_or}
 use Rattle.model.specs.Planes.{back, ahead}
-use Rattle.model.specs.Cells.{Cell, cell_at, before, in_order, lives}
+use Rattle.model.specs.Cells.{Cell, cell_at, before, lives}
 use Rattle.model.specs.World.{size}
 use Rattle.model.proofs.Reach.{far_out}
 use Rattle.lent.specs.declared.Stretch.{Stretch}
-use Rattle.lent.specs.Stretches.{to_z, tab, row_at, col_at, entry, cells_in, Listed}
-use Rattle.lent.proofs.Tab.{Has, tab_out, tab_in, order_tab}
+use Rattle.lent.specs.Stretches.{to_z, row_at, col_at, entry, cells_in, Listed}
+use Rattle.lent.proofs.Tab.{tab_out, tab_in, order_tab}
 
 pub to_z_inj : (a b : ℕ) → to_z a ≡ to_z b → a ≡ b
 to_z_inj a b e = omega (arith, ints)

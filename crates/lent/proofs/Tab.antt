@@ -1,17 +1,16 @@
 -- Lists given by an index: what lives in them, when they are in order, one cell more at the end.
 use mathlib.Core.Path.{◌≡◌, refl, sym, ap, subst, ◌∙◌}
-use mathlib.Core.Bool.{Bool, true, false}
 use mathlib.Core.List.{List, [], ◌∷◌, ◌++◌}
-use mathlib.Core.Logic.{◌⊎◌, inl, inr}
+use mathlib.Core.Logic.{inl, inr}
 use Prim.Native.Nat.{ℕ, zero, suc, ◌+◌, ◌<◌, ◌≤◌}
-use native.Mathlib.Nat.{add-zero, zero-add, add-suc}
+use native.Mathlib.Nat.{add-zero}
 use native.Mathlib.Omega.{arith}
 use native.Mathlib.Decide.{dec_lt}
 use lib.Dec.{T}
 use lib.IntN.{ℤ}
 use lib.ListN.{length}
 use Rattle.model.specs.Cells.{Cell, cell_at, before, in_order, lives}
-use Rattle.model.proofs.Order.{lives_out, lives_head, lives_tail, lives_none, order_tail, order_after, order_in, and_l}
+use Rattle.model.proofs.Order.{lives_out, lives_head, lives_tail, lives_none, order_tail, order_after, order_in}
 use Rattle.lent.specs.Stretches.{tab}
 
 -- the cell of some index

@@ -1,15 +1,12 @@
 -- A cell written into a stretch, and what stays beside it.
 use mathlib.Core.Path.{◌≡◌, refl, sym, ap, subst, ◌∙◌}
 use mathlib.Core.List.{List, [], ◌∷◌, ◌++◌}
-use mathlib.Core.Logic.{◌⊎◌, inl, inr, ◌≢◌}
-use Prim.Native.Nat.{ℕ, zero, suc, ◌+◌, ◌*◌, ◌<◌, ◌≤◌}
+use mathlib.Core.Logic.{inl, inr, ◌≢◌}
+use Prim.Native.Nat.{ℕ, suc, ◌+◌, ◌*◌, ◌<◌, ◌≤◌}
 use native.Mathlib.Omega.{arith}
-use native.Mathlib.Decide.{dec_lt}
 use lib.ListN.{length, get_or, set, length-set}
 use lib.Seq.{get_or-set_same, get_or-set_other}
-use lib.Dec.{T}
-use Rattle.model.specs.Cells.{Cell, cell_at}
-use Rattle.model.specs.World.{farthest}
+use Rattle.model.specs.Cells.{cell_at}
 use Rattle.lent.specs.declared.Stretch.{Stretch}
 use Rattle.lent.specs.Stretches.{to_z, tab, row_at, col_at, entry, cells_in, with_entry, room_words, room_cells, Listed, Beside, Apart}
 use Rattle.lent.proofs.Tab.{tab_same, tab_more}

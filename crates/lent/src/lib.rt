@@ -1,4 +1,6 @@
 // Lent memory: its words, and the stretches of them in which lists of cells lie.
+#![tactic(auto)]
+
 ghost use Rattle.std.specs.Prelude.{◌≡◌, ℕ, ◌+◌, ◌<◌, ◌≤◌, ◌^◌, ℤ, pos, neg_ℤ, ◌≤ℤ◌, length, get_or, set};
 ghost use Rattle.lent.specs.Mem.{mem, seen, Same};
 ghost use Rattle.lent.specs.Stretches.{to_z, with_entry, room_words, room_cells};

@@ -1,4 +1,6 @@
 // What a line that is typed asks for.
+#![tactic(auto)]
+
 mod numerals;
 mod words;
 

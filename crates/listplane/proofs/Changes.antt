@@ -1,17 +1,16 @@
 -- A cell put or erased, and the list that is then there.
-use Rattle.std.proofs.Common.{◌≡◌, ℕ, zero, suc, ◌+◌, ◌-◌, ◌*◌, ◌^◌, ◌<◌, ◌≤◌, Bool, true, false, cond, not, ◌||◌, T, ltb, leb, ◌⊎◌, List, [], ◌∷◌, length, ℤ, MatchBool, sym, refl, ap, ◌∙◌, subst, inl, inr, arith}
+use Rattle.std.proofs.Common.{◌≡◌, ℕ, suc, ◌^◌, ◌≤◌, Bool, true, false, cond, not, T, List, [], ◌∷◌, length, ℤ, MatchBool, sym, refl, ap, ◌∙◌, subst, inl, arith}
 use mathlib.Core.Bool.{beq}
 use Rattle.model.specs.Cells.{Cell, cell_at, same_cell, before, in_order, lives, put}
 use Rattle.model.specs.Lists.{nexts}
-use Rattle.model.specs.World.{World, world_of, with_cell, far, size, edge, farthest, most_cells, capped, Crowded, roomy}
-use Rattle.model.proofs.Order.{if_so, lists_same, same_cell_in, same_cell_out, bool_same, lives_cell, lives_tail}
+use Rattle.model.specs.World.{World, with_cell, far, size, edge, farthest, most_cells, capped, Crowded, roomy}
+use Rattle.model.proofs.Order.{if_so, lists_same, same_cell_out, lives_cell, lives_tail}
 use Rattle.model.proofs.Put.{put_order, put_lives}
 use Rattle.model.proofs.Reach.{far_in, far_out}
 use Rattle.lent.specs.declared.Stretch.{Stretch}
-use Rattle.lent.specs.Stretches.{to_z, tab, entry, cells_in, row_at, col_at, room_words, room_cells, Listed, Beside}
+use Rattle.lent.specs.Stretches.{to_z, tab, entry, cells_in}
 use Rattle.lent.proofs.Tab.{tab_length}
-use Rattle.cells.specs.Places.{Place, Holds, cell_of_words, longer, shorter}
-use Rattle.cells.proofs.Finds.{place_lives}
+use Rattle.cells.specs.Places.{Holds, cell_of_words}
 use Rattle.runs.specs.Stages.{Placed, Staged}
 
 near_size : (x y : ℤ) → T (not (far x y)) → (size x ≤ edge) × (size y ≤ edge)

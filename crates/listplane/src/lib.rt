@@ -1,4 +1,6 @@
 // A plane of at most 4,096 living cells, as a list in lent memory.
+#![tactic(auto)]
+
 ghost use Rattle.std.specs.Prelude.{◌≡◌, ◌<◌, not, T, MatchBool};
 ghost use Rattle.model.specs.Cells.{put};
 ghost use Rattle.model.specs.World.{far, most_cells};

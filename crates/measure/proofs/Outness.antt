@@ -1,5 +1,5 @@
 -- The farthest coordinate of a list, cell by cell from its end.
-use Rattle.std.proofs.Common.{◌≡◌, ℕ, suc, ◌+◌, ◌-◌, ◌<◌, ◌≤◌, max, true, cond, ltb, leb, List, sym, ap, ◌∙◌, arith}
+use Rattle.std.proofs.Common.{◌≡◌, ℕ, suc, ◌+◌, ◌-◌, ◌<◌, ◌≤◌, max, true, cond, ltb, leb, List, sym, ◌∙◌, arith}
 use Rattle.model.specs.Cells.{Cell}
 use Rattle.model.specs.World.{size, farthest, reach, edge}
 use Rattle.lent.specs.declared.Stretch.{Stretch}

@@ -1,4 +1,6 @@
 // Lists of cells in stretches of lent words: to compare and to measure them.
+#![tactic(auto)]
+
 ghost use Rattle.std.specs.Prelude.{◌≡◌, ℕ, ◌+◌, ◌*◌, ◌^◌, ◌<◌, ◌≤◌, MatchBool, Option, nat_le};
 ghost use Rattle.model.specs.declared.Period.{Period};
 ghost use Rattle.model.specs.Cells.{same_cells, bounds_of};

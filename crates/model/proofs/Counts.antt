@@ -5,7 +5,7 @@ use Rattle.model.specs.Planes.{Plane, ahead}
 use Rattle.model.specs.Rules.{as_one}
 use Rattle.model.specs.Cells.{Cell, cell_at}
 use Rattle.model.specs.Lists.{row_of, rows_of}
-use Rattle.model.specs.Squares.{Square, Leaf, Four, level, state_at, lying, living, cells_of}
+use Rattle.model.specs.Squares.{Square, Leaf, Four, level, state_at, lying, living}
 use Rattle.model.specs.Promise.{CountRight}
 use Rattle.model.proofs.Squares.{state_nw, state_ne, state_sw, state_se, levels}
 use Rattle.model.proofs.Shapes.{lying_in}

@@ -1,9 +1,9 @@
 -- What each call may answer, and the plane that it leaves: w is the plane before the call, w' the one after it.
-use Rattle.std.specs.Prelude.{◌≡◌, ℕ, Bool, true, false, cond, not, T, ℤ, Ok, Err, Option, Result}
+use Rattle.std.specs.Prelude.{◌≡◌, ℕ, Bool, cond, not, T, ℤ, Ok, Err, Option, Result}
 use Rattle.model.specs.declared.Period.{Period}
 use Rattle.model.specs.declared.Refusal.{Refusal}
 use Rattle.model.specs.declared.Refusal.TheVariants.{BadRule, TooFar, Leaves, NoRoom, BadMemory, BadForm, OtherRule}
-use Rattle.model.specs.Rules.{Rule, good_rule, rule_of}
+use Rattle.model.specs.Rules.{good_rule, rule_of}
 use Rattle.model.specs.World.{World, with_rule, with_cell, after, far, fits, Crowded, period}
 
 abbrev pub number_of : Refusal → ℕ

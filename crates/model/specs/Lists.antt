@@ -3,7 +3,6 @@ use Rattle.std.specs.Prelude.{ℕ, zero, suc, ◌+◌, ◌-◌, Bool, cond, List
 use Rattle.model.specs.Planes.{Plane, back, ahead, step}
 use Rattle.model.specs.Rules.{Rule, life}
 use Rattle.model.specs.Cells.{Cell, cell_at, plane_of, box_of}
-use Rattle.model.specs.declared.Bounds.{Bounds}
 
 -- how many numbers there are from a to b
 abbrev pub span : ℤ → ℤ → ℕ

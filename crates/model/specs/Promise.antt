@@ -1,5 +1,5 @@
 -- What is promised of rules, planes, lists and squares. Each is a type; a term of the type is its proof.
-use Rattle.std.specs.Prelude.{◌≡◌, ℕ, zero, suc, ◌+◌, ◌*◌, ◌^◌, ◌<◌, ◌≤◌, Bool, true, false, cond, ◌&&◌, T, List, [], ◌∷◌, length, ℤ, pos, ◌+ℤ◌, neg_ℤ, ◌≤ℤ◌, ◌<ℤ◌, Some, None, ◌==◌, ◌≢◌}
+use Rattle.std.specs.Prelude.{◌≡◌, ℕ, zero, suc, ◌+◌, ◌*◌, ◌^◌, ◌<◌, ◌≤◌, Bool, false, cond, ◌&&◌, T, List, length, ℤ, pos, ◌+ℤ◌, neg_ℤ, ◌≤ℤ◌, ◌<ℤ◌, Some, None, ◌==◌, ◌≢◌}
 use Rattle.model.specs.Planes.{Plane, Local, Schedule, always, step, steps}
 use Rattle.model.specs.Rules.{Rule, good_rule, life}
 use Rattle.model.specs.Cells.{Cell, cell_at, same_cell, in_order, lives, plane_of, put, moved}

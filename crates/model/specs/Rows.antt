@@ -1,5 +1,5 @@
 -- A table of worked cases, as equations.
-use Rattle.std.specs.Prelude.{◌≡◌, ℕ, ◌+◌, ◌^◌, Bool, true, false, List, [], ◌∷◌, length, ℤ, pos, negsuc, Some, None}
+use Rattle.std.specs.Prelude.{◌≡◌, ℕ, ◌+◌, ◌^◌, Bool, true, false, List, [], ◌∷◌, length, pos, negsuc, Some, None}
 use Rattle.model.specs.Planes.{always}
 use Rattle.model.specs.Rules.{Rule, good_rule, rule_of, life}
 use Rattle.model.specs.Cells.{Cell, cell_at, lives, bounds_of}

@@ -1,5 +1,5 @@
 -- The plane that people see: a rule and the living cells in order, and what can be asked of it.
-use Rattle.std.specs.Prelude.{◌≡◌, ℕ, zero, suc, ◌+◌, ◌-◌, ◌^◌, ◌<◌, ◌≤◌, Bool, true, false, cond, ◌&&◌, ◌||◌, List, [], ◌∷◌, length, ℤ, pos, negsuc, ◌+ℤ◌, neg_ℤ, Some, None, Option, nat_le, nat_lt}
+use Rattle.std.specs.Prelude.{ℕ, zero, suc, ◌+◌, ◌-◌, ◌^◌, ◌<◌, ◌≤◌, Bool, true, cond, ◌&&◌, ◌||◌, List, [], ◌∷◌, length, ℤ, pos, negsuc, ◌+ℤ◌, neg_ℤ, Some, None, Option, nat_le, nat_lt}
 use Rattle.model.specs.declared.Period.{Period}
 use Rattle.model.specs.Planes.{ahead}
 use Rattle.model.specs.Rules.{Rule}

@@ -1,4 +1,6 @@
 // What a cell, a rule, a generation, a period and an answer are, and what holds of them. The definitions stand in specs/.
+#![tactic(auto)]
+
 ghost use Rattle.std.specs.Prelude.{◌≡◌};
 ghost use Rattle.model.specs.Answers.{number_of};
 ghost use Rattle.model.specs.Promise.{ListsRight, ListsSame, Adds, ReachRight, PeriodRight, PlanesAdd, AnyRules, Main, SquaresSame, BuildRight, PaddedRight, CellsRight, PaddedCells, CountRight, RunRight, RunPadded, PutRight};

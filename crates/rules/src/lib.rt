@@ -1,4 +1,6 @@
 // Rules of birth and survival: two sets of numbers of living neighbours, and their text, as `b3s23`.
+#![tactic(auto)]
+
 ghost use Rattle.std.specs.Prelude.{◌≡◌, ◌≤◌, T, length, drop};
 ghost use Rattle.model.specs.Rules.{good_rule, becomes};
 ghost use Rattle.rules.specs.Laws.{law, ruled};

@@ -1,20 +1,20 @@
 -- One generation after the other, with the plane kept at home.
-use Rattle.std.proofs.Common.{◌≡◌, ℕ, zero, suc, ◌+◌, ◌-◌, ◌*◌, ◌<◌, ◌≤◌, Bool, true, false, not, T, leb, ◌⊎◌, List, [], ◌∷◌, length, Some, None, Option, sym, refl, ap, ◌∙◌, subst, inl, inr, arith}
+use Rattle.std.proofs.Common.{◌≡◌, ℕ, zero, suc, ◌+◌, ◌-◌, ◌*◌, ◌<◌, ◌≤◌, T, List, [], ◌∷◌, length, Some, None, Option, sym, refl, ap, ◌∙◌, subst, inl, inr, arith}
 use Rattle.model.specs.Rules.{Rule, good_rule}
 use Rattle.model.specs.Cells.{Cell, in_order, same_cells}
 use Rattle.model.specs.Lists.{next_of, nexts}
 use Rattle.model.specs.declared.Period.{Period}
 use Rattle.measure.specs.declared.Shift.{Shift}
 use Rattle.measure.specs.Shifts.{shift_period}
-use Rattle.model.specs.World.{returned, period_from, farthest, reach, edge, most_cells, Crowded, world_of, fits}
+use Rattle.model.specs.World.{returned, period_from, farthest, reach, edge, most_cells, Crowded}
 use Rattle.model.proofs.Lists.{next_order}
 use Rattle.model.proofs.Time.{adds, nexts_last, nexts_still}
 use Rattle.model.proofs.Reach.{far_nexts}
 use Rattle.model.proofs.Periods.{same_cells_lem, period_unroll}
 use Rattle.lent.specs.declared.Stretch.{Stretch}
-use Rattle.lent.specs.Stretches.{cells_in, room_words, room_cells, Listed, Beside, Apart}
+use Rattle.lent.specs.Stretches.{cells_in, room_words, Beside, Apart}
 use Rattle.lent.proofs.Writing.{beside_cells, beside_listed}
-use Rattle.runs.specs.Stages.{Placed, Staged, Kept, Stepped, world_in}
+use Rattle.runs.specs.Stages.{Placed, Staged, Kept, world_in}
 
 placed_room : (at : ℕ) → Placed at → at + room_words ≤ 3 * room_words
 placed_room at (inl e) = omega arith

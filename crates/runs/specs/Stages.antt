@@ -1,5 +1,5 @@
 -- Runs and periods on lists: one stretch keeps the plane, of two others one is read while the other is written.
-use Rattle.std.specs.Prelude.{◌≡◌, ℕ, ◌+◌, ◌*◌, ◌<◌, ◌≤◌, T, ◌⊎◌, List, length, Some, None, Ok, Err, Option, Result}
+use Rattle.std.specs.Prelude.{◌≡◌, ℕ, ◌*◌, ◌<◌, ◌≤◌, T, ◌⊎◌, List, length, Some, None, Ok, Err, Option, Result}
 use Rattle.model.specs.declared.Refusal.{Refusal}
 use Rattle.model.specs.Rules.{Rule}
 use Rattle.model.specs.World.{World, world_of, fits, most_cells}

@@ -1,4 +1,6 @@
 // Runs and periods on lists of living cells.
+#![tactic(auto)]
+
 ghost use Rattle.std.specs.Prelude.{◌≡◌, ◌+◌, ◌≤◌, T};
 ghost use Rattle.model.specs.Rules.{good_rule};
 ghost use Rattle.model.specs.Lists.{next_of};

@@ -1,3 +1,5 @@
+#![tactic(auto)]
+
 // The plane on lists held to a plain Life on a dense grid, written on its own: random soups under random rules.
 // And squares of side 16 by words, held to what a plain Life in another language made of them.
 #[cfg(test)]

@@ -1,4 +1,6 @@
 // A rule and a square of side 16 as text, and its middle after four generations.
+#![tactic(auto)]
+
 ghost use Rattle.std.specs.Prelude.{◌≡◌, ℕ, ◌+◌, ◌*◌, ◌<◌, ◌≤◌, length, take, drop, Decides, slice_index};
 ghost use Rattle.leaf.specs.Words.{cell_in};
 ghost use Rattle.squaretext.specs.Asked.{first_line, next_lines, suits_place, SquareText, drawn_at, Meant, byte_of_middle, fault_text};

@@ -1,4 +1,4 @@
-use Rattle.std.proofs.Common.{◌≡◌, ℕ, Bool, cond, pos, ◌+ℤ◌, sym, ap, arith}
+use Rattle.std.proofs.Common.{ℕ, Bool, cond, pos, ◌+ℤ◌, ap, arith}
 use borrow.Author.Differences.{ints}
 use Rattle.lent.specs.Mem.{seen}
 use Rattle.cells.proofs.Finds.{lives_far}

@@ -1,4 +1,4 @@
-use Rattle.std.proofs.Common.{◌≡◌, ℕ, ◌<◌, cond, ◌≢◌, length, ℤ, pos, ◌+ℤ◌, sym, ap, ◌∙◌, arith, get_or-set_other, get_or-set_same, w64, below_more}
+use Rattle.std.proofs.Common.{◌<◌, cond, ◌≢◌, length, pos, ◌+ℤ◌, ◌∙◌, arith, get_or-set_other, get_or-set_same, w64, below_more}
 use mir.ValLaws.{to_z-of_z}
 use Rattle.model.specs.Cells.{lives}
 use Rattle.lent.specs.Mem.{seen}

@@ -1,4 +1,4 @@
-use Rattle.std.proofs.Common.{◌≡◌, ℕ, ◌<◌, cond, length, get_or, pos, ◌+ℤ◌}
+use Rattle.std.proofs.Common.{◌≡◌, ℕ, ◌<◌, cond, get_or, pos, ◌+ℤ◌}
 use Rattle.model.specs.Cells.{lives}
 use Rattle.lent.specs.Mem.{seen}
 use Rattle.lent.specs.Stretches.{cells_in}

@@ -1,4 +1,4 @@
-use Rattle.std.proofs.Common.{◌≡◌, ℕ, ◌+◌, Option, sym, refl, ap, ◌∙◌, subst, arith}
+use Rattle.std.proofs.Common.{ℕ, ◌+◌, Option, sym, refl, ap, ◌∙◌, subst, arith}
 use Rattle.lent.specs.Mem.{mem}
 use Rattle.lent.proofs.Writing.{beside_refl, beside_trans, beside_cells}
 use Rattle.rules.specs.Laws.{law}

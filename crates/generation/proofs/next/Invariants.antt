@@ -1,4 +1,4 @@
-use Rattle.std.proofs.Common.{◌≡◌, ◌+◌}
+use Rattle.std.proofs.Common.{◌+◌}
 use Rattle.lent.specs.Mem.{mem, Same}
 use Rattle.lent.specs.Stretches.{Beside}
 use Rattle.rules.specs.Laws.{law}

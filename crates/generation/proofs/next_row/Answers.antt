@@ -1,8 +1,8 @@
-use Rattle.std.proofs.Common.{◌≡◌, ℕ, ◌+◌, Option, sym, refl, ◌∙◌, subst, arith}
+use Rattle.std.proofs.Common.{ℕ, ◌+◌, Option, sym, refl, ◌∙◌, subst, arith}
 use Rattle.lent.specs.Mem.{mem}
 use Rattle.lent.proofs.Writing.{beside_refl, beside_trans}
 use Rattle.rules.specs.Laws.{law}
-use Rattle.generation.specs.Scan.{RowMade, Bare, Skipped, Window}
+use Rattle.generation.specs.Scan.{RowMade}
 use Rattle.generation.proofs.Steps.{progress_begin, progress_skip, progress_row}
 use Rattle.generation.proofs.RowLaws.{full_moves}
 use Rattle.generation.proofs.next_row.Goals as goal

@@ -1,6 +1,5 @@
-use Rattle.std.proofs.Common.{◌≡◌, ◌+◌, true, false, sym, refl, ◌∙◌}
+use Rattle.std.proofs.Common.{◌+◌, sym, refl, ◌∙◌}
 use Rattle.lent.specs.Mem.{mem}
-use Rattle.lent.specs.Stretches.{to_z}
 use Rattle.lent.proofs.Writing.{beside_refl}
 use Rattle.rules.specs.Laws.{law}
 use Rattle.generation.proofs.Steps.{turn_hold, turn_write, progress_full}

@@ -1,5 +1,5 @@
-use Rattle.std.proofs.Common.{◌≡◌, Bool, T, sym, refl, ap, ◌∙◌, subst, arith}
-use Rattle.model.specs.Cells.{Cell, put}
+use Rattle.std.proofs.Common.{Bool, T, sym, refl, ap, ◌∙◌, subst, arith}
+use Rattle.model.specs.Cells.{put}
 use Rattle.lent.specs.Mem.{mem}
 use Rattle.lent.specs.Stretches.{cells_in}
 use Rattle.cells.specs.Places.{cell_of_words, Holds}

@@ -1,4 +1,4 @@
-use Rattle.std.proofs.Common.{◌≡◌, Option, sym, subst}
+use Rattle.std.proofs.Common.{Option, sym, subst}
 use Rattle.lent.specs.declared.Stretch.{Stretch}
 use Rattle.lent.specs.Mem.{mem}
 use Rattle.rules.specs.Laws.{law}

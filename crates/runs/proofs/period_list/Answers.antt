@@ -1,13 +1,12 @@
-use Rattle.std.proofs.Common.{◌≡◌, ℕ, ◌+◌, ◌<◌, T, List, Some, Option, sym, refl, ap, ◌∙◌, subst, arith, w64, SFits, rules}
+use Rattle.std.proofs.Common.{ℕ, ◌+◌, T, List, Some, sym, refl, ap, ◌∙◌, subst, arith, w64, SFits, rules}
 use mir.ValLaws.{to_z-of_z}
-use Rattle.model.specs.declared.Period.{Period}
 use Rattle.model.specs.Cells.{Cell}
 use Rattle.model.specs.World.{reach, returned}
 use Rattle.model.proofs.Periods.{same_cells_lem}
 use Rattle.lent.specs.Mem.{mem}
 use Rattle.lent.specs.Stretches.{cells_in}
 use Rattle.rules.specs.Laws.{law}
-use Rattle.runs.proofs.Staging.{Running, kept_trans, running_start, running_next, running_near, running_full, searching_start, searching_found, searching_on, searching_still, searching_end}
+use Rattle.runs.proofs.Staging.{kept_trans, running_start, running_next, running_near, running_full, searching_start, searching_found, searching_on, searching_still, searching_end}
 use Rattle.runs.proofs.period_list.Goals as goal
 
 pub loop-t-init : goal.loop-t-init

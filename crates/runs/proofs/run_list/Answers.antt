@@ -1,7 +1,7 @@
-use Rattle.std.proofs.Common.{◌≡◌, T, sym, refl, ◌∙◌, subst, arith}
+use Rattle.std.proofs.Common.{T, refl, ◌∙◌, subst, arith}
 use Rattle.lent.specs.Mem.{mem}
 use Rattle.rules.specs.Laws.{law}
-use Rattle.runs.proofs.Staging.{Running, kept_trans, running_start, running_next, running_near, running_full, running_still}
+use Rattle.runs.proofs.Staging.{kept_trans, running_start, running_next, running_near, running_full, running_still}
 use Rattle.runs.proofs.run_list.Goals as goal
 
 pub loop-done-init : goal.loop-done-init

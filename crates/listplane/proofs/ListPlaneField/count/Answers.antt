@@ -1,4 +1,4 @@
-use Rattle.std.proofs.Common.{◌≡◌, sym, ap, ◌∙◌}
+use Rattle.std.proofs.Common.{sym, ap, ◌∙◌}
 use Rattle.model.specs.World.{capped}
 use Rattle.lent.specs.Stretches.{entry}
 use Rattle.lent.proofs.Tab.{tab_length}

@@ -1,4 +1,4 @@
-use Rattle.std.proofs.Common.{◌≡◌, [], refl, ap}
+use Rattle.std.proofs.Common.{[], ap}
 use Rattle.model.specs.World.{world_of}
 use Rattle.rules.specs.Laws.{law}
 use Rattle.rules.specs.declared.Rule.{Rule}

@@ -1,11 +1,11 @@
-use Rattle.std.proofs.Common.{◌≡◌, ℕ, ◌<◌, Bool, true, false, not, T, List, ℤ, MatchBool, sym, refl, ap, ◌∙◌, subst, arith, w64, rules}
+use Rattle.std.proofs.Common.{◌≡◌, ℕ, not, T, List, MatchBool, sym, refl, ap, ◌∙◌, subst, arith, w64, rules}
 use mir.ValLaws.{to_z-of_z}
-use Rattle.model.specs.Cells.{Cell, cell_at, lives, put}
-use Rattle.model.specs.World.{far, world_of, most_cells}
+use Rattle.model.specs.Cells.{cell_at, put}
+use Rattle.model.specs.World.{far, world_of}
 use Rattle.rules.specs.Laws.{law}
-use Rattle.lent.specs.Mem.{mem, seen}
+use Rattle.lent.specs.Mem.{mem}
 use Rattle.lent.specs.Stretches.{to_z, cells_in}
-use Rattle.cells.specs.Places.{Place, Holds, cell_of_words}
+use Rattle.cells.specs.Places.{Place, Holds}
 use Rattle.cells.proofs.Finds.{place_lives}
 use Rattle.runs.specs.Stages.{Staged}
 use Rattle.listplane.specs.Good.{world_on}

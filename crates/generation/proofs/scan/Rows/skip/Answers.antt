@@ -1,6 +1,6 @@
 use Rattle.std.proofs.Common.{arith}
 use Rattle.lent.specs.Mem.{mem}
-use Rattle.generation.proofs.RowLaws.{RowEnd, rows_jump}
+use Rattle.generation.proofs.RowLaws.{rows_jump}
 use Rattle.generation.proofs.scan.Rows.skip.Goals as goal
 
 pub returns : goal.returns

@@ -1,6 +1,6 @@
 use Rattle.std.proofs.Common.{refl}
 use Rattle.lent.specs.Mem.{mem}
-use Rattle.generation.proofs.RowLaws.{RowEnd, rows_slide}
+use Rattle.generation.proofs.RowLaws.{rows_slide}
 use Rattle.generation.proofs.scan.Rows.slide.Goals as goal
 
 pub returns : goal.returns

@@ -1,5 +1,5 @@
 use Rattle.std.proofs.Common.{arith}
-use Rattle.generation.proofs.Windows.{Least, least_of, skip_none, skip_jump}
+use Rattle.generation.proofs.Windows.{least_of, skip_none, skip_jump}
 use Rattle.generation.proofs.scan.Sweep.skip.Goals as goal
 
 pub returns-then-first : goal.returns-then-first

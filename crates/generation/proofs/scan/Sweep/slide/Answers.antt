@@ -1,7 +1,5 @@
 use Rattle.std.proofs.Common.{◌+◌, refl, arith}
 use Rattle.lent.specs.Mem.{mem}
-use Rattle.lent.specs.declared.Stretch.{Stretch}
-use Rattle.generation.specs.declared.scan.Cursor.{Cursor}
 use Rattle.model.proofs.Order.{byte_most}
 use Rattle.generation.proofs.Windows.{Taken, window_most, slide_window, slide_fate, slide_few, slide_falls}
 use Rattle.generation.proofs.scan.Sweep.slide.Goals as goal

@@ -1,4 +1,4 @@
-use Rattle.std.proofs.Common.{◌≡◌, refl, ap}
+use Rattle.std.proofs.Common.{refl, ap}
 use Rattle.lent.specs.Mem.{mem}
 use Rattle.generation.specs.declared.scan.Cursor.{Cursor}
 use Rattle.generation.proofs.RowLaws.{window_start}
