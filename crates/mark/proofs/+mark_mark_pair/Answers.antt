@@ -10,13 +10,13 @@ use Rattle.mark.proofs.+mark_mark_pair.Goals as goal
 pub mark-mark_pair-requires : goal.mark-mark_pair-requires
 mark-mark_pair-requires t c =
     let k = kids_of c.if-depth-gt0.true c.requires.sound.0 c.requires.has c.node-node.ensures in
-    (omega arith, (c.requires.laid, (c.requires.sound.0, (c.requires.sound.1, (k.knw, k.kne)))))
+    (omega arith, (c.requires.laid, (c.requires.sound, (k.knw, k.kne))))
 
 pub mark-mark_pair-requires-then-depth-gt0 : goal.mark-mark_pair-requires-then-depth-gt0
 mark-mark_pair-requires-then-depth-gt0 t c =
     let k = kids_of c.if-depth-gt0.true c.requires.sound.0 c.requires.has c.node-node.ensures in
-    let e = c.mark-pair.ensures in let f = e.fixed in let m = e.marks in
-    (omega arith, (laid_fixed f c.requires.laid, (sound_then f m c.requires.sound.0, (e.closed, (has_then f m k.ksw, has_then f m k.kse)))))
+    let e = c.mark_pair.ensures in let f = e.fixed in let m = e.marks in
+    (omega arith, (laid_fixed f c.requires.laid, ((sound_then f m c.requires.sound.0, e.closed), (has_then f m k.ksw, has_then f m k.kse))))
 
 pub mark-returns : goal.mark-returns
 mark-returns t c =
@@ -24,7 +24,7 @@ mark-returns t c =
     let before : Same v u × Ready v u i =
     elim c.if-depth-gt0.branch [
       | mark-then-depth-gt0 w ↦ (
-          let up = w.mark-pair.ensures in let low = w.mark_pair-then-depth-gt0.ensures in
+          let up = w.mark_pair.ensures in let low = w.mark_pair-then-depth-gt0.ensures in
           subst (λ (s : Store). Same v s × Ready v s i) (sym w.store-is) (low.same ∙ up.same, ready_pairs w.node-node.ensures up.fixed up.marks up.done low.fixed low.marks low.done low.closed))
       | mark-else-depth-gt0 w ↦ subst (λ (s : Store). Same v s × Ready v s i) (sym w.store-is) (refl, ready_leaf w.if-depth-gt0.false c.requires.has c.requires.sound.1)
     ] in
@@ -34,7 +34,7 @@ mark-returns t c =
 pub mark_pair-mark-requires-2 : goal.mark_pair-mark-requires-2
 mark_pair-mark-requires-2 t c =
     let e = c.mark.ensures in let f = e.fixed in let m = e.marks in
-    (omega arith, (laid_fixed f c.requires.laid, (sound_then f m c.requires.sound.0, (e.closed, has_then f m c.requires.has.1))))
+    (omega arith, (laid_fixed f c.requires.laid, ((sound_then f m c.requires.sound.0, e.closed), has_then f m c.requires.has.1)))
 
 pub mark_pair-returns : goal.mark_pair-returns
 mark_pair-returns t c =
