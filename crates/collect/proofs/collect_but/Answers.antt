@@ -9,7 +9,7 @@ use Rattle.collect.proofs.Collecting.{marking_good, marking_marks, is_marks, kee
 use Rattle.collect.proofs.collect_but.Goals as goal
 
 pub forget-requires : goal.forget-requires
-forget-requires c = let v = c.args.store.now in let w = c.mark-four.new.store in let e = c.mark-four.ensures in let f = e.fixed in
+forget-requires c = let v = c.args.store.now in let w = c.mark_four.new.store in let e = c.mark_four.ensures in let f = e.fixed in
     record {
       marking = transport (λ k. MarkingAt (sym f.at k) (sym f.slots k) (sym f.top k) (mem w))
           (marking_marks v.at v.slots v.top (mem v) (mem w) (marking_good v.at v.slots v.top v.left (mem v) c.requires.good) e.marks
@@ -18,9 +18,9 @@ forget-requires c = let v = c.args.store.now in let w = c.mark-four.new.store in
 
 pub returns : goal.returns
 returns c =
-    let v = c.args.store.now in let w = c.mark-four.new.store in let u = c.forget.new.store in let d = c.args.depth in
+    let v = c.args.store.now in let w = c.mark_four.new.store in let u = c.forget.new.store in let d = c.args.depth in
     let a = v.at in let n = v.slots in let t = v.top in
-    let e = c.mark-four.ensures in let f = e.fixed in let g = c.forget.ensures in let s = g.still in
+    let e = c.mark_four.ensures in let f = e.fixed in let g = c.forget.ensures in let s = g.still in
     let means : (i : ℕ) → Marked a (mem w) i → Means v u d i = λ i b q h.
     g.spared.spared d i q (transport (λ k. IsAt (sym f.slots k) (view (sym f.at k) (mem w)) d i q) (is_marks e.marks h)) (subst (λ (k : ℕ). Marked k (mem w) i) (sym f.at) b) in
     record {

@@ -8,9 +8,9 @@ use Rattle.collect.proofs.forget.Goals as goal
 
 pub returns : goal.returns
 returns c =
-    let v = c.args.store.now in let w = c.mark-held.new.store in let u = c.sweep.new.store in
+    let v = c.args.store.now in let w = c.mark_held.new.store in let u = c.sweep.new.store in
     let a = v.at in let n = v.slots in let t = v.top in
-    let e = c.mark-held.ensures in let f = c.sweep.ensures in let x = e.fixed in let y = f.cut in
+    let e = c.mark_held.ensures in let f = c.sweep.ensures in let x = e.fixed in let y = f.cut in
     let s : StaysAt a n (mem w) (mem u) = transport (λ k. StaysAt (x.at k) (x.slots k) (mem w) (mem u)) f.stays in
     record {
       same = f.same ∙ e.same;

@@ -8,7 +8,7 @@ use Rattle.store.proofs.clear.Goals as goal
 
 pub loop-slot-preserved : goal.loop-slot-preserved
 loop-slot-preserved c =
-    let v = c.args.store.now in let k = c.loop-slot.slot in let i = c.loop-slot.invariant in let e = c.set-word.ensures in
+    let v = c.args.store.now in let k = c.loop-slot.slot in let i = c.loop-slot.invariant in let e = c.set_word.ensures in
     let m = mem c.loop-slot.store in (
       e.same ∙ i.0,
       fixed_trans i.1 e.fixed,

@@ -17,9 +17,9 @@ returns-in-Some c =
           (record { means_nw = λ s h. h; means_ne = λ s h. h; means_sw = λ s h. h; means_se = λ s h. h }) (added_first v w c.four-node.result c.in-Some.number e.cut a.given);
     }
 
-pub add-again-requires : goal.add-again-requires
-add-again-requires c = let v = c.args.store.now in let w = c.add.new.store in let u = c.collect-but.new.store in let e = c.in-default.ensures in let d = c.args.depth in let q = c.args.quarters in
-    let g = c.collect-but.ensures in let f = four_means v w d q c.requires.four.0 (kept_grown v w e.cut e.added.grown d q) in
+pub add_again-requires : goal.add_again-requires
+add_again-requires c = let v = c.args.store.now in let w = c.add.new.store in let u = c.collect_but.new.store in let e = c.in_default.ensures in let d = c.args.depth in let q = c.args.quarters in
+    let g = c.collect_but.ensures in let f = four_means v w d q c.requires.four.0 (kept_grown v w e.cut e.added.grown d q) in
     record {
       good = g.good;
       proper = subst (Proper u.slots (table u)) (sym c.four-node.ensures) (proper_four u d q g.good (four_means w u d q f g.kept) c.requires.four.1);
@@ -27,9 +27,9 @@ add-again-requires c = let v = c.args.store.now in let w = c.add.new.store in le
 
 pub returns : goal.returns
 returns c =
-    let v = c.args.store.now in let w = c.add.new.store in let u = c.collect-but.new.store in let z = c.add-again.new.store in
-    let e = c.in-default.ensures in let d = c.args.depth in let q = c.args.quarters in
-    let g = c.collect-but.ensures in let k = kept_grown v w e.cut e.added.grown d q in let f = four_means v w d q c.requires.four.0 k in let b = c.add-again.ensures in
+    let v = c.args.store.now in let w = c.add.new.store in let u = c.collect_but.new.store in let z = c.add_again.new.store in
+    let e = c.in_default.ensures in let d = c.args.depth in let q = c.args.quarters in
+    let g = c.collect_but.ensures in let k = kept_grown v w e.cut e.added.grown d q in let f = four_means v w d q c.requires.four.0 k in let b = c.add_again.ensures in
     let s1 = still_grown v w c.requires.good e.cut e.added.grown in let t1 = e.cut.top in
     let s2 = still_two v w u v.top s1 t1 g.still in let t2 = g.top ∙ t1 in
     record {
@@ -37,5 +37,5 @@ returns c =
       good = b.good;
       still = still_two v u z v.top s2 t2 (still_grown u z g.good b.cut b.grown);
       top = b.cut.top ∙ t2;
-      is = interned v u z d q c.four-node.result c.add-again.result c.four-node.ensures g.good (four_means w u d q f g.kept) b.good (kept_two v w u d q k g.kept) b.added;
+      is = interned v u z d q c.four-node.result c.add_again.result c.four-node.ensures g.good (four_means w u d q f g.kept) b.good (kept_two v w u d q k g.kept) b.added;
     }

@@ -15,8 +15,8 @@ returns-in-Some c =
 
 pub returns : goal.returns
 returns c =
-    let v = c.args.store.now in let w = c.add.new.store in let u = c.collect.new.store in let z = c.add-again.new.store in
-    let e = c.in-default.ensures in let g = c.collect.ensures in let b = c.add-again.ensures in
+    let v = c.args.store.now in let w = c.add.new.store in let u = c.collect.new.store in let z = c.add_again.new.store in
+    let e = c.in_default.ensures in let g = c.collect.ensures in let b = c.add_again.ensures in
     let s1 = still_grown v w c.requires.good e.cut e.added.grown in let t1 = e.cut.top in
     let s2 = still_two v w u v.top s1 t1 g.still in let t2 = g.top ∙ t1 in
     record {
@@ -24,5 +24,5 @@ returns c =
       good = b.good;
       still = still_two v u z v.top s2 t2 (still_grown u z g.good b.cut b.grown);
       top = b.cut.top ∙ t2;
-      is = leaf_interned u z c.args.cells c.leaf-node.result c.add-again.result c.leaf-node.ensures b.good b.added;
+      is = leaf_interned u z c.args.cells c.leaf-node.result c.add_again.result c.leaf-node.ensures b.good b.added;
     }
