@@ -9,28 +9,28 @@ use Rattle.pads.proofs.join_corners.Goals as goal
 pub corner-requires : goal.corner-requires
 corner-requires c = (way_framed c.args.store.now c.loop-i.store c.args.corners.now c.loop-i.corners c.args.below c.args.place c.loop-i.i c.requires.framed.deep c.loop-i.invariant.1, c.loop-i-test.true)
 
-pub returns-in-err-number : goal.returns-in-err-number
-returns-in-err-number c =
-    let e = c.in-err-number.ensures in
+pub returns-in_err-number : goal.returns-in_err-number
+returns-in_err-number c =
+    let e = c.in_err-number.ensures in
     record {
       same = e.same ∙ c.loop-i.invariant.0;
-      joined = way_break c.args.store.now c.loop-i.store c.corner.new.store c.args.corners.now c.loop-i.corners c.args.below c.args.place c.loop-i.i _ c.from-residual.result
-          c.from-residual.ensures.0 c.loop-i.invariant.1 e.corner;
+      joined = way_break c.args.store.now c.loop-i.store c.corner.new.store c.args.corners.now c.loop-i.corners c.args.below c.args.place c.loop-i.i _ c.from_residual.result
+          c.from_residual.ensures.0 c.loop-i.invariant.1 e.corner;
     }
 
 pub add-requires : goal.add-requires
-add-requires c = let v = c.args.store.now in let w = c.loop-i.store in let u = c.corner.new.store in let o = c.in-ok-number.ensures.corner in let p = c.loop-i.invariant.1 in
+add-requires c = let v = c.args.store.now in let w = c.loop-i.store in let u = c.corner.new.store in let o = c.in_ok-number.ensures.corner in let p = c.loop-i.invariant.1 in
     let f = way_framed v w c.args.corners.now c.loop-i.corners c.args.below c.args.place c.loop-i.i c.requires.framed.deep p in
-    let has = corner_has w u c.args.below c.args.place c.loop-i.i c.in-ok-number.number f o in
+    let has = corner_has w u c.args.below c.args.place c.loop-i.i c.in_ok-number.number f o in
     let deep = has.deep in let top = o.steady.top in let ends = p.parts.ends in let len = p.parts.len in let from = p.from in let l = c.loop-i-test.true in let room = c.requires.room in let first = c.requires.parts.ends in
     record { good = o.good; square = (has.here, omega arith); room = (omega arith, record { ends = omega arith }) }
 
 pub loop-i-preserved : goal.loop-i-preserved
 loop-i-preserved c =
-    let e = c.in-ok-number.ensures in let a = c.add.ensures in (
+    let e = c.in_ok-number.ensures in let a = c.add.ensures in (
       a.same ∙ e.same ∙ c.loop-i.invariant.0,
       underway_more c.args.store.now c.loop-i.store c.corner.new.store c.add.new.store c.args.corners.now c.loop-i.corners c.add.new.self c.args.place (suc c.args.below)
-          (suc c.args.below) c.loop-i.i c.in-ok-number.number (corner_of c.args.below) c.loop-i.invariant.1 e.corner.steady e.corner.is a.good a.pushed a.more,
+          (suc c.args.below) c.loop-i.i c.in_ok-number.number (corner_of c.args.below) c.loop-i.invariant.1 e.corner.steady e.corner.is a.good a.pushed a.more,
     )
 
 pub intern-requires : goal.intern-requires

@@ -7,13 +7,13 @@ use Rattle.pieces.proofs.middle_of.Goals as goal
 
 pub returns-then-depth-eq0 : goal.returns-then-depth-eq0
 returns-then-depth-eq0 c =
-    let v = c.args.store.now in let w = c.intern-leaf.new.store in let e = c.intern-leaf.ensures in let m = c.middle.ensures in
+    let v = c.args.store.now in let w = c.intern_leaf.new.store in let e = c.intern_leaf.ensures in let m = c.middle.ensures in
     record {
       same = e.same;
       middle = record {
         good = e.good;
         steady = record { still = e.still; top = e.top };
-        is = middle_leaf v w c.args.depth c.args.four c.middle.result c.intern-leaf.result c.if-depth-eq0.true e.is (λ a b d f ha hb hd hf.
+        is = middle_leaf v w c.args.depth c.args.four c.middle.result c.intern_leaf.result c.if-depth-eq0.true e.is (λ a b d f ha hb hd hf.
             let pa = c.cells-nw.ensures a ha in let pb = c.cells-ne.ensures b hb in let pd = c.cells-sw.ensures d hd in let pf = c.cells-se.ensures f hf in
             middle_word c.cells-nw.result c.cells-ne.result c.cells-sw.result c.cells-se.result c.middle.result m.nw m.ne m.sw m.se ∙
             (λ i. middle (Four (sym pa i) (sym pb i) (sym pd i) (sym pf i))));

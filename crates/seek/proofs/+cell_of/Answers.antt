@@ -11,8 +11,8 @@ returns-then-depth-eq0 t c = λ q h.
     let e = c.cells.ensures q (subst (λ (d : ℕ). Is v d c.args.number q) z h) in
     c.cell.ensures ∙ word_state _ x y (leaf_within _ x z c.requires.within.0) (leaf_within _ y z c.requires.within.1) ∙ (λ i. state_at (suc (suc (suc (sym z i)))) (sym e i) x y)
 
-pub cell-of-requires : goal.cell-of-requires
-cell-of-requires t c =
+pub cell_of-requires : goal.cell_of-requires
+cell_of-requires t c =
     let v = c.args.store.now in let p = c.args.depth - 1 in let n = c.if-depth-eq0.false in let l = c.requires.square.1 in
     let z : c.args.depth ≡ suc p = omega arith in
     let h = subst (λ (d : ℕ). Has v d c.args.number) z c.requires.square.0 in (
@@ -30,5 +30,5 @@ pub returns : goal.returns
 returns t c = λ q h.
     let v = c.args.store.now in let p = c.args.depth - 1 in let n = c.if-depth-eq0.false in
     let z : c.args.depth ≡ suc p = omega arith in
-    c.cell-of.ensures _ (c.quarter-part.ensures p q (subst (λ (d : ℕ). Is v d c.args.number q) z h)) ∙
+    c.cell_of.ensures _ (c.quarter-part.ensures p q (subst (λ (d : ℕ). Is v d c.args.number q) z h)) ∙
     quarter_state v c.args.depth p c.args.number q c.args.x c.args.y c.side-half.result z c.side-half.ensures c.requires.within.0 c.requires.within.1 h

@@ -1,4 +1,4 @@
 use Rattle.seek.proofs.+cell_of.Given as goal
 
-abbrev pub decreases-cell-of : goal.decreases-cell-of
-decreases-cell-of l = l.depth
+abbrev pub decreases-cell_of : goal.decreases-cell_of
+decreases-cell_of l = l.depth

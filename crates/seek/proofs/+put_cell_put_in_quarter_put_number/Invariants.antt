@@ -1,11 +1,11 @@
 use Rattle.std.proofs.Common.{◌+◌, ◌*◌}
 use Rattle.seek.proofs.+put_cell_put_in_quarter_put_number.Given as goal
 
-abbrev pub decreases-put-cell : goal.decreases-put-cell
-decreases-put-cell l = 3 * l.depth
+abbrev pub decreases-put_cell : goal.decreases-put_cell
+decreases-put_cell l = 3 * l.depth
 
-abbrev pub decreases-put-in-quarter : goal.decreases-put-in-quarter
-decreases-put-in-quarter l = 3 * l.below + 2
+abbrev pub decreases-put_in_quarter : goal.decreases-put_in_quarter
+decreases-put_in_quarter l = 3 * l.below + 2
 
-abbrev pub decreases-put-number : goal.decreases-put-number
-decreases-put-number l = 3 * l.depth + 1
+abbrev pub decreases-put_number : goal.decreases-put_number
+decreases-put_number l = 3 * l.depth + 1

@@ -10,7 +10,7 @@ use Rattle.trees.proofs.+grow.Goals as goal
 
 pub returns-then-depth-eq0 : goal.returns-then-depth-eq0
 returns-then-depth-eq0 t c =
-    let e = c.intern-leaf.ensures in let l = c.args.leaves in let p = c.args.place in let w = c.intern-leaf.new.store in let r = c.intern-leaf.result in let z = c.if-depth-eq0.true in
+    let e = c.intern_leaf.ensures in let l = c.args.leaves in let p = c.args.place in let w = c.intern_leaf.new.store in let r = c.intern_leaf.result in let z = c.if-depth-eq0.true in
     record {
       kept = record { same = e.same; good = e.good; still = e.still; top = e.top };
       is = subst (λ (d : ℕ). Made w d (grown l c.args.depth p) r) (sym z)
@@ -29,10 +29,10 @@ grow-requires t c =
 
 pub loop-k-init : goal.loop-k-init
 loop-k-init t c =
-    let e = c.in-ok-number.ensures in let f = c.take-hold.ensures in let l = c.args.leaves in let d = c.args.depth - 1 in let o = c.args.order % 4 in
+    let e = c.in_ok-number.ensures in let f = c.take-hold.ensures in let l = c.args.leaves in let d = c.args.depth - 1 in let o = c.args.order % 4 in
     let z : o ≡ (o + 0) % 4 = omega arith in
     row_here (row_new (λ j. grown l d (quarter_at c.args.place ((o + j) % 4)))
-    (subst (λ (p : Place). Is c.grow.new.store d c.in-ok-number.number (grown l d p)) (c.quarter.ensures ∙ ap (quarter_at c.args.place) z) e.is) f.same f.good f.pushed f.is)
+    (subst (λ (p : Place). Is c.grow.new.store d c.in_ok-number.number (grown l d p)) (c.quarter.ensures ∙ ap (quarter_at c.args.place) z) e.is) f.same f.good f.pushed f.is)
 
 pub quarter-requires-in-loop-k : goal.quarter-requires-in-loop-k
 quarter-requires-in-loop-k t c = (inside_most _ _ c.requires.inside.1.0, omega arith)
@@ -40,7 +40,7 @@ quarter-requires-in-loop-k t c = (inside_most _ _ c.requires.inside.1.0, omega a
 pub grow-requires-in-loop-k : goal.grow-requires-in-loop-k
 grow-requires-in-loop-k t c =
     let i = c.requires.inside in let m = i.0 in let r = c.requires.room in let n : 0 < c.args.depth = omega (arith, c.if-depth-eq0.false) in
-    let v = c.loop-k.invariant in let b = c.loop-k-test.true in let k = c.in-ok-number.ensures.kept.top in let h = ap (λ (h : Hold). h.from) c.take-hold.ensures.is in
+    let v = c.loop-k.invariant in let b = c.loop-k-test.true in let k = c.in_ok-number.ensures.kept.top in let h = ap (λ (h : Hold). h.from) c.take-hold.ensures.is in
     let f = v.taken.from in let e = v.taken.last.ends in let l = v.len in (
       omega arith,
       (
@@ -58,13 +58,13 @@ grow-requires-in-loop-k t c =
 pub add-requires : goal.add-requires
 add-requires t c =
     let e = c.in-Ok.ensures in let r = taken_on c.loop-k.invariant.taken e.kept in let v = e.is.valid in let d = v.deep in let n : 0 < c.args.depth = omega (arith, c.if-depth-eq0.false) in
-    let m = c.requires.room in let b = c.loop-k-test.true in let k = c.in-ok-number.ensures.kept.top in let h = ap (λ (h : Hold). h.from) c.take-hold.ensures.is in
+    let m = c.requires.room in let b = c.loop-k-test.true in let k = c.in_ok-number.ensures.kept.top in let h = ap (λ (h : Hold). h.from) c.take-hold.ensures.is in
     let f = r.from in let t = r.last.ends in let l = c.loop-k.invariant.len in
     record { good = e.kept.good; square = (v.here, omega arith); room = (omega arith, r.last) }
 
 pub returns-in-Err : goal.returns-in-Err
 returns-in-Err t c =
-    let e = c.in-ok-number.ensures in let f = c.take-hold.ensures in let g = c.release.ensures in
+    let e = c.in_ok-number.ensures in let f = c.take-hold.ensures in let g = c.release.ensures in
     let k = taken_from e.kept (taken_new f.same f.good f.pushed f.is) in
     record { kept = taken_end (taken_trans k (taken_on c.loop-k.invariant.taken c.in-Err.ensures.kept)) g.same g.good g.popped; is = tt }
 
@@ -88,7 +88,7 @@ returns t c =
     let four = four_held (c.args.order % 4) (c.args.depth - 1) c.loop-k.k c.args.leaves c.args.place
     (record { nw = c.number.result; ne = c.number-2.result; sw = c.number-3.result; se = c.number-4.result }) (omega arith) (omega arith) c.loop-k.invariant
     c.number.ensures.is c.number-2.ensures.is c.number-3.ensures.is c.number-4.ensures.is in
-    let e = c.in-ok-number.ensures in let f = c.take-hold.ensures in let i = c.intern-made.ensures in let g = c.release-2.ensures in let d = c.args.depth in
+    let e = c.in_ok-number.ensures in let f = c.take-hold.ensures in let i = c.intern-made.ensures in let g = c.release-2.ensures in let d = c.args.depth in
     let l = c.args.leaves in let p = c.args.place in let w = c.intern-made.new.store in let r = c.intern-made.result in
     let k = taken_from e.kept (taken_new f.same f.good f.pushed f.is) in
     let z : suc (d - 1) ≡ d = omega (arith, c.if-depth-eq0.false) in

@@ -6,14 +6,14 @@ use Rattle.trees.proofs.grow_many.Goals as goal
 
 pub grow-requires : goal.grow-requires
 grow-requires c =
-    let v = c.loop-x.invariant in let n = c.in-ok-hold.ensures.0.from in let f = v.0.from in let e = v.0.last.ends in let l = v.1 in
+    let v = c.loop-x.invariant in let n = c.in_ok-hold.ensures.0.from in let f = v.0.from in let e = v.0.last.ends in let l = v.1 in
     let r = c.requires.room in let i = c.requires.inside in let d = i.0 in let b = c.loop-x-test.true in
     record { good = v.0.good; room = omega arith; inside = (omega arith, (inside_row c.args.depth c.loop-x.x d (omega arith), i.1.1)) }
 
 pub returns-in-Err : goal.returns-in-Err
 returns-in-Err c =
     let l = c.loop-x.invariant.1 in let b = c.loop-x-test.true in
-    (taken_trans c.in-ok-hold.ensures.0 (taken_on c.loop-x.invariant.0 c.in-Err.ensures.kept), omega arith)
+    (taken_trans c.in_ok-hold.ensures.0 (taken_on c.loop-x.invariant.0 c.in-Err.ensures.kept), omega arith)
 
 pub loop-x-preserved : goal.loop-x-preserved
 loop-x-preserved c =
@@ -23,4 +23,4 @@ loop-x-preserved c =
 pub returns : goal.returns
 returns c =
     let l = c.loop-x.invariant.1 in let b = c.loop-x.auto.x-end (let n = c.requires.inside.1.0 in omega arith) in
-    (taken_trans c.in-ok-hold.ensures.0 c.loop-x.invariant.0, omega arith)
+    (taken_trans c.in_ok-hold.ensures.0 c.loop-x.invariant.0, omega arith)

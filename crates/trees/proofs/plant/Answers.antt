@@ -7,12 +7,12 @@ use Rattle.trees.proofs.plant.Goals as goal
 
 pub loop-k-init : goal.loop-k-init
 loop-k-init c =
-    let e = c.in-ok-number.ensures in let f = c.take-hold.ensures in
-    row_here (row_new (λ j. word_square (mix c.args.seed j)) (subst (Is c.intern-leaf.new.store 0 c.in-ok-number.number) (ap word_square c.mix.ensures) e.is.is) f.same f.good f.pushed f.is)
+    let e = c.in_ok-number.ensures in let f = c.take-hold.ensures in
+    row_here (row_new (λ j. word_square (mix c.args.seed j)) (subst (Is c.intern_leaf.new.store 0 c.in_ok-number.number) (ap word_square c.mix.ensures) e.is.is) f.same f.good f.pushed f.is)
 
 pub returns-in-Err : goal.returns-in-Err
 returns-in-Err c =
-    let e = c.in-ok-number.ensures in let f = c.take-hold.ensures in let i = c.in-Err.ensures in let g = c.release.ensures in
+    let e = c.in_ok-number.ensures in let f = c.take-hold.ensures in let i = c.in-Err.ensures in let g = c.release.ensures in
     let k = taken_from (record { same = e.same; good = e.good; still = e.still; top = e.top }) (taken_new f.same f.good f.pushed f.is) in
     taken_end (taken_trans k (row_on c.loop-k.invariant (record { same = i.same; good = i.good; still = i.still; top = i.top })).taken) g.same g.good g.popped
 
@@ -20,10 +20,10 @@ pub loop-k-preserved : goal.loop-k-preserved
 loop-k-preserved c =
     let i = c.in-Ok.ensures in let f = c.add.ensures in
     row_more (row_on c.loop-k.invariant (record { same = i.same; good = i.good; still = i.still; top = i.top }))
-    (subst (Is c.intern-leaf-in-loop-k.new.store 0 c.in-Ok.number) (ap word_square c.mix-in-loop-k.ensures) i.is.is) f.same f.good f.pushed f.more
+    (subst (Is c.intern_leaf-in-loop-k.new.store 0 c.in-Ok.number) (ap word_square c.mix-in-loop-k.ensures) i.is.is) f.same f.good f.pushed f.more
 
 pub returns : goal.returns
 returns c =
-    let e = c.in-ok-number.ensures in let f = c.take-hold.ensures in let b = c.loop-k-test.false in let m = c.loop-k.auto.k-end (omega arith) in
+    let e = c.in_ok-number.ensures in let f = c.take-hold.ensures in let b = c.loop-k-test.false in let m = c.loop-k.auto.k-end (omega arith) in
     let k = taken_from (record { same = e.same; good = e.good; still = e.still; top = e.top }) (taken_new f.same f.good f.pushed f.is) in
     (taken_trans k c.loop-k.invariant.taken, subst (λ (n : ℕ). Holds c.loop-k.store c.loop-k.hold n 0) (omega arith) (row_holds c.loop-k.invariant))

@@ -1,8 +1,8 @@
 use Rattle.trees.proofs.Rows.{kept_trans}
 use Rattle.trees.proofs.weave_often.Goals as goal
 
-pub returns-in-err-number : goal.returns-in-err-number
-returns-in-err-number c = let e = c.weave.ensures in record { kept = kept_trans c.loop-turn.invariant.0 e.kept; bed = e.bed }
+pub returns-in_err-number : goal.returns-in_err-number
+returns-in_err-number c = let e = c.weave.ensures in record { kept = kept_trans c.loop-turn.invariant.0 e.kept; bed = e.bed }
 
 pub loop-turn-preserved : goal.loop-turn-preserved
 loop-turn-preserved c = let e = c.weave.ensures in (kept_trans c.loop-turn.invariant.0 e.kept, e.bed)
