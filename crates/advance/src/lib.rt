@@ -21,7 +21,7 @@ use squares::{cells, count, quarters};
 use store::{Full, intern, intern_leaf};
 
 // The leap of the square that is held at a place: noted, or worked out and noted.
-#[cycle(advance_advance_number_gather_join_leap_parts_ninth_part_part_quarter_part_work_out)]
+#[cycle(leaping)]
 pub fn advance(
     store: &mut Store,
     rule: Rule,
@@ -45,7 +45,7 @@ pub fn advance(
     Ok(leap)
 }
 
-#[cycle(advance_advance_number_gather_join_leap_parts_ninth_part_part_quarter_part_work_out)]
+#[cycle(leaping)]
 fn work_out(
     store: &mut Store,
     rule: Rule,
@@ -79,7 +79,7 @@ fn leap_words(store: &mut Store, rule: Rule, exponent: usize, place: usize) -> R
 }
 
 // The leap of a larger square: nine that overlap leap; of these each four that touch are put together, and leap in turn or give their middle; the four results make the whole.
-#[cycle(advance_advance_number_gather_join_leap_parts_ninth_part_part_quarter_part_work_out)]
+#[cycle(leaping)]
 fn leap_parts(
     store: &mut Store,
     rule: Rule,
@@ -98,7 +98,7 @@ fn leap_parts(
 }
 
 // Gathers the parts, and joins the last four.
-#[cycle(advance_advance_number_gather_join_leap_parts_ninth_part_part_quarter_part_work_out)]
+#[cycle(leaping)]
 fn join(
     store: &mut Store,
     rule: Rule,
@@ -122,7 +122,7 @@ fn join(
 }
 
 // Works out the thirteen parts, and holds each.
-#[cycle(advance_advance_number_gather_join_leap_parts_ninth_part_part_quarter_part_work_out)]
+#[cycle(leaping)]
 fn gather(
     store: &mut Store,
     rule: Rule,
@@ -143,7 +143,7 @@ fn gather(
 }
 
 // One of the nine, or of the four that they make.
-#[cycle(advance_advance_number_gather_join_leap_parts_ninth_part_part_quarter_part_work_out)]
+#[cycle(leaping)]
 fn part(
     store: &mut Store,
     rule: Rule,
@@ -165,7 +165,7 @@ fn part(
 }
 
 // The leap of one of the nine.
-#[cycle(advance_advance_number_gather_join_leap_parts_ninth_part_part_quarter_part_work_out)]
+#[cycle(leaping)]
 fn ninth_part(
     store: &mut Store,
     rule: Rule,
@@ -183,7 +183,7 @@ fn ninth_part(
 }
 
 // The i-th quarter of the whole leap.
-#[cycle(advance_advance_number_gather_join_leap_parts_ninth_part_part_quarter_part_work_out)]
+#[cycle(leaping)]
 fn quarter_part(
     store: &mut Store,
     rule: Rule,
@@ -213,7 +213,7 @@ fn quarter_part(
 }
 
 // The leap of a square that isn't held.
-#[cycle(advance_advance_number_gather_join_leap_parts_ninth_part_part_quarter_part_work_out)]
+#[cycle(leaping)]
 pub fn advance_number(
     store: &mut Store,
     rule: Rule,

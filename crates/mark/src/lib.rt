@@ -8,7 +8,7 @@ ghost use Rattle.slots.specs.Stores.{mem, Same, Fixed, Laid, table, Closed, Has}
 use slots::{MARK, Store, TAG};
 
 // Marks a square and all squares that it is made of. A square is marked after its quarters, so that at every moment the quarters of marked squares are marked.
-#[cycle(mark_mark_pair)]
+#[cycle(marking)]
 pub fn mark(store: &mut Store, depth: usize, number: usize)
     requires laid { Laid store.old }
     requires sound { (Sound store.old.slots (table store.old)) × (Closed store.old) }
@@ -32,7 +32,7 @@ pub fn mark(store: &mut Store, depth: usize, number: usize)
 }
 
 // Marks the two squares whose numbers are in a word.
-#[cycle(mark_mark_pair)]
+#[cycle(marking)]
 fn mark_pair(store: &mut Store, depth: usize, pair: u64)
     requires laid { Laid store.old }
     requires sound { (Sound store.old.slots (table store.old)) × (Closed store.old) }

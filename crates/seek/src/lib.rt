@@ -29,7 +29,7 @@ pub fn cell_of(store: &Store, depth: usize, number: usize, x: u64, y: u64) -> bo
 }
 
 // The number of the square that is held at a place, with the cell living or not that is x to the right and y down. One path of squares is made anew.
-#[cycle(put_cell_put_in_quarter_put_number)]
+#[cycle(putting)]
 pub fn put_cell(
     store: &mut Store,
     depth: usize,
@@ -59,7 +59,7 @@ fn put_in_leaf(store: &mut Store, place: usize, x: u32, y: u32, lives: bool) -> 
 }
 
 // The quarter in which the cell lies is made anew, and joins the other three; `below` is the depth of the quarters.
-#[cycle(put_cell_put_in_quarter_put_number)]
+#[cycle(putting)]
 fn put_in_quarter(
     store: &mut Store,
     below: usize,
@@ -83,7 +83,7 @@ fn put_in_quarter(
 }
 
 // The same for a square that isn't held.
-#[cycle(put_cell_put_in_quarter_put_number)]
+#[cycle(putting)]
 fn put_number(
     store: &mut Store,
     depth: usize,

@@ -20,8 +20,8 @@ cell_of-requires t c =
       (
         c.requires.good,
         (
-          (c.quarter-part.ensures p _ (is_self v (suc p) c.args.number h)).valid,
-          (omega arith, (rest_within c.args.x _ p c.side-half.ensures, rest_within c.args.y _ p c.side-half.ensures)),
+          ((c.quarter-part.ensures p _ (is_self v (suc p) c.args.number h)).valid, omega arith),
+          (rest_within c.args.x _ p c.side-half.ensures, rest_within c.args.y _ p c.side-half.ensures),
         ),
       ),
     )

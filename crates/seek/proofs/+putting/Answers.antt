@@ -7,7 +7,7 @@ use Rattle.pieces.proofs.Steady.{steady_trans, number_steady, number_gives}
 use Rattle.seek.specs.Putting.{put_in}
 use Rattle.seek.proofs.Paths.{rest_within}
 use Rattle.seek.proofs.Steps.{joining, joins_four, joins_answer, number_task}
-use Rattle.seek.proofs.+put_cell_put_in_quarter_put_number.Goals as goal
+use Rattle.seek.proofs.+putting.Goals as goal
 
 pub put_in_quarter-put_number-requires : goal.put_in_quarter-put_number-requires
 put_in_quarter-put_number-requires t c =

@@ -1,5 +1,5 @@
 use Rattle.std.proofs.Common.{◌+◌, ◌*◌}
-use Rattle.seek.proofs.+put_cell_put_in_quarter_put_number.Given as goal
+use Rattle.seek.proofs.+putting.Given as goal
 
 abbrev pub decreases-put_cell : goal.decreases-put_cell
 decreases-put_cell l = 3 * l.depth

@@ -1,5 +1,5 @@
 use Prim.Native.Nat.{◌+◌, ◌*◌}
-use Rattle.mark.proofs.+mark_mark_pair.Given as goal
+use Rattle.mark.proofs.+marking.Given as goal
 
 -- the two call each other: a square's pairs are one less deep than it, and the squares of a pair as deep as the pair
 abbrev pub decreases-mark : goal.decreases-mark

@@ -1,7 +1,7 @@
 use Rattle.std.proofs.Common.{◌+◌, ◌*◌}
 use Rattle.slots.specs.Stores.{Same}
 use Rattle.advance.proofs.Parts.{Loop}
-use Rattle.advance.proofs.+advance_advance_number_gather_join_leap_parts_ninth_part_part_quarter_part_work_out.Given as goal
+use Rattle.advance.proofs.+leaping.Given as goal
 
 abbrev pub decreases-advance : goal.decreases-advance
 decreases-advance l = 10 * l.depth + 9

@@ -4,8 +4,8 @@ use Rattle.slots.specs.declared.Store.{Store}
 use Rattle.slots.specs.Stores.{mem, Same}
 use Rattle.slots.proofs.Stores.{fixed_trans, laid_fixed}
 use Rattle.mark.proofs.Marks.{sound_then, has_then, marks_trans, marks_at, marked_at, kids_of, Ready, ready_leaf, ready_pairs, mark_last}
-use Rattle.mark.proofs.+mark_mark_pair.Goals.{mark-then-depth-gt0, mark-else-depth-gt0}
-use Rattle.mark.proofs.+mark_mark_pair.Goals as goal
+use Rattle.mark.proofs.+marking.Goals.{mark-then-depth-gt0, mark-else-depth-gt0}
+use Rattle.mark.proofs.+marking.Goals as goal
 
 pub mark-mark_pair-requires : goal.mark-mark_pair-requires
 mark-mark_pair-requires t c =
