@@ -37,17 +37,17 @@ advance-returns-in-Some t c =
     }
 
 pub advance-note-requires : goal.advance-note-requires
-advance-note-requires t c = let v = c.args.store.now in let w = c.work-out.new.store in let o = c.in-ok-leap.ensures.leap in
+advance-note-requires t c = let v = c.args.store.now in let w = c.work_out.new.store in let o = c.in_ok-leap.ensures.leap in
     let r = c.args.rule in let e = c.args.exponent in let p = c.args.depth in let k = c.args.place in let i = c.held-number.result in
     record {
       good = (o.good, c.requires.rule);
       square = (has_number v w r e p k i c.requires c.held-number.ensures o.steady, c.requires.power);
-      leap = leap_known v w r e p k i c.in-ok-leap.leap c.requires c.held-number.ensures o.steady o.is;
+      leap = leap_known v w r e p k i c.in_ok-leap.leap c.requires c.held-number.ensures o.steady o.is;
     }
 
 pub advance-returns : goal.advance-returns
 advance-returns t c =
-    let w = c.work-out.new.store in let u = c.note.new.store in let o = c.in-ok-leap.ensures in let n = c.note.ensures in
+    let w = c.work_out.new.store in let u = c.note.new.store in let o = c.in_ok-leap.ensures in let n = c.note.ensures in
     record {
       same = n.same ∙ o.same;
       leap = record {
@@ -57,13 +57,13 @@ advance-returns t c =
       };
     }
 
-pub advance-number-advance-leap-requires : goal.advance-number-advance-leap-requires
-advance-number-advance-leap-requires t c =
+pub advance_number-advance-leap-requires : goal.advance_number-advance-leap-requires
+advance_number-advance-leap-requires t c =
     let v = c.args.store.now in let w = c.take-hold.new.store in let h = c.take-hold.ensures in let z = h.pushed.top in
     (omega arith, number_task v w c.args.rule c.args.exponent c.args.depth c.args.number (w.top - 1) c.requires h.good h.pushed (omega arith))
 
-pub advance-number-returns : goal.advance-number-returns
-advance-number-returns t c =
+pub advance_number-returns : goal.advance_number-returns
+advance_number-returns t c =
     let v = c.args.store.now in let w = c.take-hold.new.store in let u = c.advance-leap.new.store in let z = c.release.new.store in
     let h = c.take-hold.ensures in let a = c.advance-leap.ensures in let r = c.release.ensures in let i = c.args.number in let top = h.pushed.top in
     let popped = subst (λ (k : ℕ). Popped k u z) (ap (λ (x : Hold). x.from) h.is) r.popped in
@@ -77,26 +77,26 @@ advance-number-returns t c =
       };
     }
 
-pub gather-returns-in-err-number : goal.gather-returns-in-err-number
-gather-returns-in-err-number t c =
-    let v = c.args.store.now in let w = c.loop-i.store in let u = c.part.new.store in let g = c.args.parts.now in let h = c.loop-i.parts in let e = c.in-err-number.ensures in
+pub gather-returns-in_err-number : goal.gather-returns-in_err-number
+gather-returns-in_err-number t c =
+    let v = c.args.store.now in let w = c.loop-i.store in let u = c.part.new.store in let g = c.args.parts.now in let h = c.loop-i.parts in let e = c.in_err-number.ensures in
     record {
       same = e.same ∙ c.loop-i.invariant.0;
-      gathered = loop_break v w u g h c.args.rule c.args.exponent c.args.below c.args.place c.loop-i.i _ c.from-residual.result c.from-residual.ensures.0 c.loop-i.invariant.1 e.part;
+      gathered = loop_break v w u g h c.args.rule c.args.exponent c.args.below c.args.place c.loop-i.i _ c.from_residual.result c.from_residual.ensures.0 c.loop-i.invariant.1 e.part;
     }
 
 pub gather-add-requires : goal.gather-add-requires
-gather-add-requires t c = let w = c.loop-i.store in let u = c.part.new.store in let h = c.loop-i.parts in let o = c.in-ok-number.ensures.part in let n = c.loop-i.i in let p = c.loop-i.invariant.1.ready in
-    let has = part_has w u h c.args.rule c.args.exponent c.args.below c.args.place n c.in-ok-number.number c.loop-i-test.true p o in
+gather-add-requires t c = let w = c.loop-i.store in let u = c.part.new.store in let h = c.loop-i.parts in let o = c.in_ok-number.ensures.part in let n = c.loop-i.i in let p = c.loop-i.invariant.1.ready in
+    let has = part_has w u h c.args.rule c.args.exponent c.args.below c.args.place n c.in_ok-number.number c.loop-i-test.true p o in
     let deep = has.deep in let top = o.steady.top in let room = p.room in let ends = p.parts.ends in let len = p.parts.len in let l = c.loop-i-test.true in
     record { good = o.good; square = (has.here, omega arith); room = (omega arith, record { ends = omega arith }) }
 
 pub gather-loop-i-preserved : goal.gather-loop-i-preserved
 gather-loop-i-preserved t c =
     let v = c.args.store.now in let w = c.loop-i.store in let u = c.part.new.store in let z = c.add.new.store in let g = c.args.parts.now in let h = c.loop-i.parts in
-    let e = c.in-ok-number.ensures in let a = c.add.ensures in (
+    let e = c.in_ok-number.ensures in let a = c.add.ensures in (
       a.same ∙ e.same ∙ c.loop-i.invariant.0,
-      loop_more v w u z g h c.add.new.self c.args.rule c.args.exponent c.args.below c.args.place c.loop-i.i c.in-ok-number.number c.loop-i.invariant.1
+      loop_more v w u z g h c.add.new.self c.args.rule c.args.exponent c.args.below c.args.place c.loop-i.i c.in_ok-number.number c.loop-i.invariant.1
           e.part a.good a.pushed a.more,
     )
 
@@ -111,7 +111,7 @@ gather-returns t c =
     }
 
 pub join-intern-requires : goal.join-intern-requires
-join-intern-requires t c = let w = c.gather.new.store in let h = c.gather.new.parts in let g = c.in-ok-gather.ensures.gathered in
+join-intern-requires t c = let w = c.gather.new.store in let h = c.gather.new.parts in let g = c.in_ok-gather.ensures.gathered in
     record {
       good = g.good;
       four = (
@@ -123,7 +123,7 @@ join-intern-requires t c = let w = c.gather.new.store in let h = c.gather.new.pa
 
 pub join-returns : goal.join-returns
 join-returns t c =
-    let v = c.args.store.now in let w = c.gather.new.store in let u = c.intern.new.store in let h = c.gather.new.parts in let e = c.in-ok-gather.ensures in let g = e.gathered in
+    let v = c.args.store.now in let w = c.gather.new.store in let u = c.intern.new.store in let h = c.gather.new.parts in let e = c.in_ok-gather.ensures in let g = e.gathered in
     let i = c.intern.ensures in let top = i.top in let ends = g.ends in let from = g.from in
     record {
       same = i.same ∙ e.same;
@@ -138,8 +138,8 @@ join-returns t c =
       };
     }
 
-pub leap-parts-returns : goal.leap-parts-returns
-leap-parts-returns t c =
+pub leap_parts-returns : goal.leap_parts-returns
+leap_parts-returns t c =
     let v = c.args.store.now in let w = c.join-leap.new.store in let u = c.release.new.store in let j = c.join-leap.ensures in let r = c.release.ensures in
     let start : c.start-parts.result.from ≡ v.top = ap (λ (x : Hold). x.from) c.start-parts.ensures in
     let popped = subst (λ (k : ℕ). Popped k w u) (j.joined.from ∙ start) r.popped in
@@ -152,40 +152,40 @@ leap-parts-returns t c =
       };
     }
 
-pub ninth-part-advance-number-requires : goal.ninth-part-advance-number-requires
-ninth-part-advance-number-requires t c =
-    let v = c.args.store.now in let w = c.piece.new.store in let e = c.in-ok-number.ensures in (
+pub ninth_part-advance_number-requires : goal.ninth_part-advance_number-requires
+ninth_part-advance_number-requires t c =
+    let v = c.args.store.now in let w = c.piece.new.store in let e = c.in_ok-number.ensures in (
       omega arith,
-      piece_loose v w c.args.rule c.args.exponent c.args.below c.args.place c.args.i c.in-ok-number.number c.inner-exponent.result c.requires.0 e.good e.steady e.is
-          c.inner-exponent.ensures,
+      piece_loose v w c.args.rule c.args.exponent c.args.below c.args.place c.args.i c.in_ok-number.number c.inner_exponent.result c.requires.0 e.good e.steady e.is
+          c.inner_exponent.ensures,
     )
 
-pub ninth-part-returns : goal.ninth-part-returns
-ninth-part-returns t c =
-    let v = c.args.store.now in let w = c.piece.new.store in let u = c.advance-number.new.store in let e = c.in-ok-number.ensures in let a = c.advance-number.ensures in
+pub ninth_part-returns : goal.ninth_part-returns
+ninth_part-returns t c =
+    let v = c.args.store.now in let w = c.piece.new.store in let u = c.advance_number.new.store in let e = c.in_ok-number.ensures in let a = c.advance_number.ensures in
     record {
       same = a.same ∙ e.same;
-      part = piece_leap v w u c.args.rule c.args.exponent c.args.below c.args.place c.args.i c.in-ok-number.number c.inner-exponent.result c.advance-number.result e.steady e.is
-          c.inner-exponent.ensures a.leap;
+      part = piece_leap v w u c.args.rule c.args.exponent c.args.below c.args.place c.args.i c.in_ok-number.number c.inner_exponent.result c.advance_number.result e.steady e.is
+          c.inner_exponent.ensures a.leap;
     }
 
-pub part-quarter-part-requires : goal.part-quarter-part-requires
-part-quarter-part-requires t c =
+pub part-quarter_part-requires : goal.part-quarter_part-requires
+part-quarter_part-requires t c =
     let l = c.if-i-lt9.false in let m = c.requires.1 in
     (omega arith, (nined c.args.store.now c.args.parts.now c.args.rule c.args.exponent c.args.below c.args.place c.args.i (omega arith) c.requires.1 c.requires.0, omega arith))
 
 pub part-returns-then-i-lt9 : goal.part-returns-then-i-lt9
 part-returns-then-i-lt9 t c =
-    let e = c.ninth-part.ensures in
+    let e = c.ninth_part.ensures in
     record { same = e.same; part = outcome_map _ (part_ninth (law c.args.rule) c.args.exponent c.args.below c.args.i c.if-i-lt9.true) e.part }
 
 pub part-returns-else-i-lt9 : goal.part-returns-else-i-lt9
 part-returns-else-i-lt9 t c =
-    let e = c.quarter-part.ensures in let l = c.if-i-lt9.false in
+    let e = c.quarter_part.ensures in let l = c.if-i-lt9.false in
     record { same = e.same; part = outcome_map _ (part_quarter (law c.args.rule) c.args.exponent c.args.below c.args.i (c.args.i - 9) (omega arith) refl) e.part }
 
-pub quarter-part-intern-requires : goal.quarter-part-intern-requires
-quarter-part-intern-requires t c = let v = c.args.store.now in let n = c.requires.0 in let deep = n.rooted.deep in
+pub quarter_part-intern-requires : goal.quarter_part-intern-requires
+quarter_part-intern-requires t c = let v = c.args.store.now in let n = c.requires.0 in let deep = n.rooted.deep in
     record {
       good = n.rooted.good;
       four = (
@@ -196,18 +196,18 @@ quarter-part-intern-requires t c = let v = c.args.store.now in let n = c.require
       );
     }
 
-pub quarter-part-advance-number-requires : goal.quarter-part-advance-number-requires
-quarter-part-advance-number-requires t c =
-    let v = c.args.store.now in let w = c.intern.new.store in let n = c.requires.0 in let e = c.in-ok-number.ensures in (
+pub quarter_part-advance_number-requires : goal.quarter_part-advance_number-requires
+quarter_part-advance_number-requires t c =
+    let v = c.args.store.now in let w = c.intern.new.store in let n = c.requires.0 in let e = c.in_ok-number.ensures in (
       omega arith,
-      four_loose v w c.args.rule c.args.exponent c.args.below c.args.place c.args.i c.in-ok-number.number (c.args.below + 2) _ n.rooted e.good
+      four_loose v w c.args.rule c.args.exponent c.args.below c.args.place c.args.i c.in_ok-number.number (c.args.below + 2) _ n.rooted e.good
           (record { still = e.still; top = e.top })
           (fours v c.args.parts.now c.args.rule c.args.exponent c.args.below c.args.place c.args.i _ n c.requires.1 c.number.ensures.is c.number-2.ensures.is c.number-3.ensures.is
           c.number-4.ensures.is) e.is refl,
     )
 
-pub quarter-part-middle-of-requires : goal.quarter-part-middle-of-requires
-quarter-part-middle-of-requires t c = let v = c.args.store.now in let n = c.requires.0 in let deep = n.rooted.deep in
+pub quarter_part-middle_of-requires : goal.quarter_part-middle_of-requires
+quarter_part-middle_of-requires t c = let v = c.args.store.now in let n = c.requires.0 in let deep = n.rooted.deep in
     record {
       good = n.rooted.good;
       four = (
@@ -218,26 +218,26 @@ quarter-part-middle-of-requires t c = let v = c.args.store.now in let n = c.requ
       );
     }
 
-pub quarter-part-returns-in-ok-number : goal.quarter-part-returns-in-ok-number
-quarter-part-returns-in-ok-number t c =
-    let v = c.args.store.now in let w = c.intern.new.store in let u = c.advance-number.new.store in let n = c.requires.0 in let e = c.in-ok-number.ensures in let a = c.advance-number.ensures in
+pub quarter_part-returns-in_ok-number : goal.quarter_part-returns-in_ok-number
+quarter_part-returns-in_ok-number t c =
+    let v = c.args.store.now in let w = c.intern.new.store in let u = c.advance_number.new.store in let n = c.requires.0 in let e = c.in_ok-number.ensures in let a = c.advance_number.ensures in
     record {
       same = a.same ∙ e.same;
-      part = four_leap v w u c.args.rule c.args.exponent c.args.below c.args.place c.args.i c.in-ok-number.number (c.args.below + 2) _ c.advance-number.result c.if-exponent-below.true refl
+      part = four_leap v w u c.args.rule c.args.exponent c.args.below c.args.place c.args.i c.in_ok-number.number (c.args.below + 2) _ c.advance_number.result c.if-exponent-below.true refl
           (record { still = e.still; top = e.top })
           (fours v c.args.parts.now c.args.rule c.args.exponent c.args.below c.args.place c.args.i _ n c.requires.1 c.number.ensures.is c.number-2.ensures.is c.number-3.ensures.is
           c.number-4.ensures.is) e.is a.leap;
     }
 
-pub quarter-part-returns-else-exponent-below : goal.quarter-part-returns-else-exponent-below
-quarter-part-returns-else-exponent-below t c =
-    let v = c.args.store.now in let w = c.middle-of.new.store in let n = c.requires.0 in let m = c.middle-of.ensures in
+pub quarter_part-returns-else-exponent-below : goal.quarter_part-returns-else-exponent-below
+quarter_part-returns-else-exponent-below t c =
+    let v = c.args.store.now in let w = c.middle_of.new.store in let n = c.requires.0 in let m = c.middle_of.ensures in
     record {
       same = m.same;
       part = record {
         good = m.middle.good;
         steady = m.middle.steady;
-        is = four_middle v w c.args.rule c.args.exponent c.args.below c.args.place c.args.i _ c.middle-of.result c.if-exponent-below.false
+        is = four_middle v w c.args.rule c.args.exponent c.args.below c.args.place c.args.i _ c.middle_of.result c.if-exponent-below.false
             (fours v c.args.parts.now c.args.rule c.args.exponent c.args.below c.args.place c.args.i _ n c.requires.1 c.number.ensures.is c.number-2.ensures.is c.number-3.ensures.is
             c.number-4.ensures.is) m.middle.is;
       };

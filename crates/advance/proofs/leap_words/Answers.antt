@@ -23,14 +23,14 @@ leap16-requires c = let p = pow_mono c.requires.power in record { good = c.requi
 
 pub returns : goal.returns
 returns c =
-    let v = c.args.store.now in let w = c.intern-leaf.new.store in let e = c.intern-leaf.ensures in let l = c.requires.power in
+    let v = c.args.store.now in let w = c.intern_leaf.new.store in let e = c.intern_leaf.ensures in let l = c.requires.power in
     let p = pow_mono l in let z : 1 * 2 ^ c.args.exponent % 2 ^ 32 ≡ 2 ^ c.args.exponent = omega arith in
     record {
       same = e.same;
       leap = record {
         good = e.good;
         steady = record { still = e.still; top = e.top };
-        is = leaf_answers v w 1 c.args.place c.leap16.result (leap_of (law c.args.rule) c.args.exponent 0) c.intern-leaf.result e.is (λ q b.
+        is = leaf_answers v w 1 c.args.place c.leap16.result (leap_of (law c.args.rule) c.args.exponent 0) c.intern_leaf.result e.is (λ q b.
             c.leap16.ensures.leap c.args.exponent l z ∙
             ap (leap_of (law c.args.rule) c.args.exponent 0) (sym (words_square v c.args.place c.held.result c.quarters-four.result _ _ _ _ q b c.held.ensures c.quarters-four.ensures
             c.cells-nw.ensures c.cells-ne.ensures c.cells-sw.ensures c.cells-se.ensures)));
