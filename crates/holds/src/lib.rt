@@ -1,4 +1,6 @@
 // Holds: what is held outlives a collection.
+#![tactic(auto)]
+
 ghost use Rattle.std.specs.Prelude.{true, false, ◌≡◌, ◌+◌, ◌<◌, ◌≤◌};
 ghost use Rattle.nodes.specs.Memory.{hold_room};
 ghost use Rattle.slots.specs.Stores.{Same, Good, table};

@@ -7,20 +7,20 @@ use Rattle.std.proofs.lemmas.Bool.Decides.{nat_tests}
 use Rattle.std.specs.Option.{option_map}
 use Rattle.std.specs.Char.{is_ascii_digit}
 use Rattle.std.specs.Fmt.{signed_decimal}
-use Rattle.std.specs.List.{AllByRecursion as All}
+use Rattle.std.specs.List.{AllByRecursion}
 use Rattle.rules.specs.Texts.{reads}
 use Rattle.lines.specs.Numerals.{into, digit_on, read_on, natural_of, at_most, place_of}
 use Rattle.lines.specs.Splits.{Word, is_line_text, longer, words_of, no_words_left}
 use Rattle.lines.specs.Promise.{spaced, WordsRight, NumbersRight, Examples, Refusals}
 
 abbrev NoSpace : Word → Type 0
-NoSpace w = All (λ (c : ℕ). c ≡ 32 → ⊥) w
+NoSpace w = AllByRecursion (λ (c : ℕ). c ≡ 32 → ⊥) w
 
 -- what is kept as a line grows in front
 record Split (line : List ℕ) (ws : List Word) : Type 0 where
   pub some : no_words_left ws ≡ false
   pub back : spaced ws ≡ line
-  pub free : All NoSpace ws
+  pub free : AllByRecursion NoSpace ws
 
 space_first : (line : List ℕ) (ws : List Word) → Split line ws → Split (32 ∷ line) ([] ∷ ws)
 unfolding spaced

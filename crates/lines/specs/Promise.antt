@@ -2,7 +2,7 @@
 use Rattle.std.specs.Prelude.{◌≡◌, ℕ, ◌^◌, ◌<◌, ◌≤◌, true, false, List, [], ◌∷◌, ◌++◌, ℤ, pos, negsuc, Some, Ok, Err, codes, decimal, ◌≢◌}
 use Rattle.std.specs.Int.Signed.{mag}
 use Rattle.std.specs.Fmt.{signed_decimal}
-use Rattle.std.specs.List.{AllByRecursion as All}
+use Rattle.std.specs.List.{AllByRecursion}
 use Rattle.model.specs.declared.Refusal.{Refusal}
 use Rattle.model.specs.declared.Refusal.TheVariants.{BadRule, BadForm}
 use Rattle.lines.specs.declared.Command.{Command}
@@ -19,7 +19,7 @@ spaced (w ∷ (v ∷ ws)) = w ++ (32 ∷ spaced (v ∷ ws))
 
 -- the words of a line make up the line, and none of them holds a space
 abbrev pub WordsRight : Type 0
-WordsRight = (line : List ℕ) → (spaced (words_of line) ≡ line) × All (λ (w : Word). All (λ (c : ℕ). c ≢ 32) w) (words_of line)
+WordsRight = (line : List ℕ) → (spaced (words_of line) ≡ line) × AllByRecursion (λ (w : Word). AllByRecursion (λ (c : ℕ). c ≢ 32) w) (words_of line)
 
 -- a number is read from the digits that write it
 abbrev pub NumbersRight : Type 0

@@ -1,4 +1,6 @@
 // The first part of a collection: the squares that are needed are marked.
+#![tactic(auto)]
+
 ghost use Rattle.std.specs.Prelude.{ℕ, ◌<◌, ◌≤◌};
 ghost use Rattle.nodes.specs.Nodes.{first, second, Sound};
 ghost use Rattle.nodes.specs.Memory.{Marked, held_in};

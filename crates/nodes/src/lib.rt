@@ -1,4 +1,6 @@
 // Squares as nodes in lent words, and what holds of them. The definitions stand in specs/.
+#![tactic(auto)]
+
 ghost use Rattle.std.specs.Prelude.{◌≡◌, ◌+◌, ◌^◌, ◌<◌};
 ghost use Rattle.nodes.specs.Nodes.{SquaresOnce, first, second, pair, leaf_node, four_node, quarters_of};
 

@@ -1,4 +1,6 @@
 // Nodes in the table of slots: found, or put where the search for them ends.
+#![tactic(auto)]
+
 ghost use Rattle.std.specs.Prelude.{◌≡◌, ℕ, ◌+◌, ◌<◌, ◌≤◌, true, false, ◌≢◌};
 ghost use Rattle.model.specs.Squares.{living};
 ghost use Rattle.nodes.specs.Nodes.{Sound};

@@ -1,4 +1,6 @@
 // The words of the store of squares: first the numbers that are held, then the slots of the table.
+#![tactic(auto)]
+
 ghost use Rattle.std.specs.Prelude.{◌≡◌, ◌+◌, ◌*◌, ◌%◌, ◌<◌, set};
 ghost use Rattle.nodes.specs.Memory.{hold_room, base, word, tag, held_in, count_in};
 ghost use Rattle.nodes.specs.Nodes.{home_of};

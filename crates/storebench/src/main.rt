@@ -33,7 +33,7 @@ fn nodes(
     requires { (Good store.old) × (store.old.top ≡ 0) }
 {
     let Ok(bed) = plant(store, 1) else {
-        return Err(FULL.into());
+        return Err(anyhow!(FULL));
     };
     let before = weave_often(store, &bed, first, mask);
     let start = Instant::now(rt);
@@ -46,7 +46,7 @@ fn nodes(
             collections: tally.collections,
             nanos,
         }),
-        _ => Err(FULL.into()),
+        _ => Err(anyhow!(FULL)),
     }
 }
 
@@ -55,7 +55,7 @@ fn leaves(rt: &HostRuntime, store: &mut Store, turns: u64) -> anyhow::Result<Tim
 {
     let start = Instant::now(rt)?;
     let Ok(tally) = sow(store, 1, turns) else {
-        return Err(FULL.into());
+        return Err(anyhow!(FULL));
     };
     let nanos = start.elapsed(rt)?.as_nanos();
     Ok(Timed {
@@ -78,7 +78,7 @@ fn collections(rt: &HostRuntime, store: &mut Store, turns: u64) -> anyhow::Resul
     for turn in 0..turns {
         let left = store.left as u64;
         let Ok(tally) = sow(store, turn, left) else {
-            return Err(FULL.into());
+            return Err(anyhow!(FULL));
         };
         timed.sum = timed.sum.wrapping_add(tally.sum);
         let start = Instant::now(rt)?;
@@ -97,7 +97,7 @@ fn half_held(rt: &HostRuntime, store: &mut Store, depth: usize, turns: u64) -> a
         kinds: 1 << (2 * depth),
     };
     let Ok(tree) = grow_held(store, kinds, depth, Place { x: 0, y: 0 }, 0) else {
-        return Err(FULL.into());
+        return Err(anyhow!(FULL));
     };
     let timed = collections(rt, store, turns);
     tree.release(store);

@@ -8,7 +8,7 @@ use native.Mathlib.Omega.{arith}
 use native.Mathlib.Decide.{dec_lt}
 use lib.Dec.{leb}
 use Rattle.nodes.specs.declared.Node.{Node}
-use Rattle.nodes.specs.Nodes.{Table, first, square_of, Valid, Kids, IsAt, away, home_of, Sound, used, limit}
+use Rattle.nodes.specs.Nodes.{Table, square_of, Valid, Kids, IsAt, away, home_of, Sound, used, limit}
 use Rattle.nodes.specs.Memory.{word, tag, view, Marked, held_in, target_of, NoteRight, GoodAt}
 use Rattle.nodes.specs.Marking.{MarkedAt, StaysAt}
 use Rattle.nodes.proofs.Tables.{square_frame}

@@ -1,4 +1,6 @@
 // The sweep of a collection: two passes over the slots forget the squares that are not marked. No square moves.
+#![tactic(auto)]
+
 ghost use Rattle.std.specs.Prelude.{◌≡◌, ◌||◌, ◌^◌, ◌<◌, ◌≤◌, leb, ltb};
 ghost use Rattle.nodes.specs.Memory.{tag};
 ghost use Rattle.nodes.specs.Marking.{MarkedAt, StaysAt};

@@ -1,4 +1,4 @@
-use Rattle.std.proofs.Common.{◌-◌, sym, ap, ◌∙◌, subst}
+use Rattle.std.proofs.Common.{sym, ap, ◌∙◌, subst}
 use Rattle.slots.specs.Stores.{mem, table}
 use Rattle.probe.specs.Places.{Countable, counts_of}
 use Rattle.probe.proofs.Counting.{countable, leaf_count, four_count}

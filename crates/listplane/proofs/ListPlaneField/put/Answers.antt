@@ -1,4 +1,5 @@
 use Rattle.std.proofs.Common.{◌≡◌, ℕ, not, T, List, MatchBool, sym, refl, ap, ◌∙◌, subst, arith, w64, rules}
+use Rattle.std.proofs.lemmas.Grind.{common_steps}
 use mir.ValLaws.{to_z-of_z}
 use Rattle.model.specs.Cells.{cell_at, put}
 use Rattle.model.specs.World.{far, world_of}
@@ -11,7 +12,6 @@ use Rattle.runs.specs.Stages.{Staged}
 use Rattle.listplane.specs.Good.{world_on}
 use Rattle.listplane.proofs.Changes.{put_same, put_crowded, not_far, differ, agree, other_way}
 use Rattle.listplane.proofs.ListPlaneField.put.Goals as goal
-use Rattle.listplane.proofs.ListPlaneField.put.Goals.{else-lives-via-then-lives+else-self-eq-MOST_CELLS, else-lives-via-else-lives}
 
 pub returns-then-there-lives : goal.returns-then-there-lives
 returns-then-there-lives c =
@@ -55,10 +55,7 @@ change-self-requires c =
       place = place;
       near = not_far c.is_far.result (to_z col) (to_z row) (c.is_far.ensures ∙ (λ j. far ((ex ∙ sym (c.to_word-column.ensures ∙ ex)) j) ((ey ∙ sym (c.to_word-row.ensures ∙ ey)) j))) c.if-is_far.false;
       other = other_way (Holds (mem c.new-words.result) s i row col) c.holds-there.result c.args.lives c.if-there-lives.false held;
-      room = λ t. let few = c.requires.staged.few in elim c.else-lives.branch [
-        | else-lives-via-then-lives+else-self-eq-MOST_CELLS v ↦ omega (arith, few, v.if-self-eq-MOST_CELLS.false)
-        | else-lives-via-else-lives v ↦ absurd (subst T v.if-lives.false t)
-      ];
+      room = λ t. let few = c.requires.staged.few in grind (arith, common_steps, few, t);
     }
 
 pub returns : goal.returns

@@ -3,8 +3,8 @@ use Rattle.slots.specs.Stores.{Has}
 use Rattle.trees.proofs.Rows.{kept_trans, holds_kept}
 use Rattle.treetests.proofs.tests.outlives.Goals as goal
 
-pub returns-in-err-again : goal.returns-in-err-again
-returns-in-err-again c = kept_trans c.churn.ensures.kept c.grow.ensures.kept
+pub returns-in_err-again : goal.returns-in_err-again
+returns-in_err-again c = kept_trans c.churn.ensures.kept c.grow.ensures.kept
 
 pub compare-same-requires : goal.compare-same-requires
 compare-same-requires c =
