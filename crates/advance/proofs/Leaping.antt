@@ -1,5 +1,5 @@
 -- Leaps from parts, of words, and of nothing.
-use Rattle.std.proofs.Common.{◌≡◌, ℕ, zero, suc, ◌+◌, ◌-◌, ◌^◌, ◌<◌, ◌≤◌, Bool, true, false, cond, not, ◌&&◌, T, eqb, ltb, length, ℤ, pos, sym, refl, ap, ◌∙◌, arith}
+use Rattle.std.proofs.Common.{◌≡◌, ℕ, zero, suc, ◌+◌, ◌^◌, ◌<◌, ◌≤◌, Bool, true, false, cond, not, ◌&&◌, T, eqb, ltb, length, ℤ, pos, sym, refl, ap, ◌∙◌, arith}
 use Rattle.model.specs.Planes.{Plane, Schedule, always, step, steps}
 use Rattle.model.specs.Rules.{Rule as Law, good_rule, life, nth}
 use Rattle.model.specs.Squares.{Square, Leaf, Four, level, nw, ne, sw, se, state_at, middle, leap, leap_by, plain, living}

@@ -1,5 +1,5 @@
 -- Parts gathered one after another, and joined.
-use Rattle.std.proofs.Common.{◌≡◌, ℕ, suc, ◌+◌, ◌-◌, ◌<◌, ◌≤◌, Bool, true, false, is_err, Ok, Err, Result, sym, ap, ◌∙◌, subst, arith}
+use Rattle.std.proofs.Common.{◌≡◌, ℕ, suc, ◌+◌, ◌<◌, ◌≤◌, Bool, true, false, is_err, Ok, Err, Result, sym, ap, ◌∙◌, subst, arith}
 use Rattle.model.specs.Squares.{Square}
 use Rattle.rules.specs.declared.Rule.{Rule}
 use Rattle.rules.specs.Laws.{law}

@@ -1,6 +1,8 @@
 // Leaps through the store: from a held square to the number of its middle, 2^exponent generations on.
 //
 // In all functions here `depth` is that of the leap, one less than the square's, and `below` is one less again.
+#![tactic(auto)]
+
 ghost use Rattle.std.specs.Prelude.{◌≡◌, suc, ◌+◌, ◌<◌, ◌≤◌};
 ghost use Rattle.rules.specs.Laws.{law};
 ghost use Rattle.nodes.specs.Memory.{leap_of};

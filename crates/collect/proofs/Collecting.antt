@@ -2,7 +2,7 @@
 use mathlib.Core.Path.{◌≡◌, sym, subst, transport, ◌∙◌}
 use mathlib.Core.Bool.{Bool}
 use mathlib.Core.List.{List}
-use Prim.Native.Nat.{ℕ, suc, ◌+◌, ◌-◌, ◌*◌, ◌^◌, ◌<◌, ◌≤◌}
+use Prim.Native.Nat.{ℕ, suc, ◌+◌, ◌*◌, ◌^◌, ◌<◌, ◌≤◌}
 use native.Mathlib.Omega.{arith}
 use Rattle.model.specs.Squares.{Square, living}
 use Rattle.nodes.specs.Nodes.{Valid, IsAt, Sound, square_of, used, limit}

@@ -1,4 +1,6 @@
 // Collection: squares that nothing needs are forgotten, and their slots used again.
+#![tactic(auto)]
+
 ghost use Rattle.std.specs.Prelude.{◌≡◌};
 ghost use Rattle.nodes.specs.Nodes.{Sound};
 ghost use Rattle.nodes.specs.Marking.{MarksAt};

@@ -1,4 +1,6 @@
 // Leaps are noted with squares, so that what is noted is not worked out again. A note is used only for its own rule and exponent.
+#![tactic(auto)]
+
 ghost use Rattle.std.specs.Prelude.{◌≡◌, ℕ, suc, ◌+◌, ◌*◌, ◌^◌, ◌<◌, ◌≤◌, T, Some, slice_set};
 ghost use Rattle.model.specs.Rules.{good_rule};
 ghost use Rattle.rules.specs.Laws.{law};

@@ -1,5 +1,5 @@
 -- The four corners, one after another, and joined.
-use Rattle.std.proofs.Common.{◌≡◌, ℕ, suc, ◌+◌, ◌-◌, ◌<◌, Bool, true, false, is_err, Ok, Err, Result, sym, subst, arith}
+use Rattle.std.proofs.Common.{◌≡◌, ℕ, suc, ◌+◌, ◌<◌, Bool, true, false, is_err, Ok, Err, Result, sym, subst, arith}
 use Rattle.model.specs.Squares.{Square, padded}
 use Rattle.nodes.specs.declared.Quarters.{Quarters}
 use Rattle.slots.specs.declared.Store.{Store}

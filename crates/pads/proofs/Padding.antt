@@ -1,6 +1,6 @@
 -- Nothing, and corners.
-use Rattle.std.proofs.Common.{◌≡◌, ℕ, zero, suc, ◌-◌, ◌/◌, ◌%◌, ◌<◌, Bool, Ok, Err, Result, sym, refl, subst, arith}
-use Rattle.model.specs.Squares.{Square, nw, ne, sw, se, plain, build}
+use Rattle.std.proofs.Common.{◌≡◌, ℕ, zero, suc, ◌/◌, ◌%◌, ◌<◌, Bool, Ok, Err, Result, sym, refl, subst, arith}
+use Rattle.model.specs.Squares.{Square, plain, build}
 use Rattle.leaf.specs.Words.{bit, cell_in}
 use Rattle.leaf.specs.AsSquares.{word_square}
 use Rattle.slots.specs.declared.Store.{Store}

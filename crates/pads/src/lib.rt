@@ -1,4 +1,6 @@
 // Squares with nothing around them.
+#![tactic(auto)]
+
 ghost use Rattle.std.specs.Prelude.{◌≡◌, suc, ◌+◌, ◌<◌, ◌≤◌, false};
 ghost use Rattle.model.specs.Squares.{padded};
 ghost use Rattle.nodes.specs.Memory.{hold_room};

@@ -1,4 +1,6 @@
 // The nine overlapping squares of which a leap is made.
+#![tactic(auto)]
+
 ghost use Rattle.std.specs.Prelude.{ℕ, suc, ◌+◌, ◌/◌, ◌%◌, ◌<◌, Bool};
 ghost use Rattle.model.specs.Squares.{Square};
 ghost use Rattle.slots.specs.Stores.{Same, Good, Has, Is};

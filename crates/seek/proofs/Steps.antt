@@ -1,5 +1,5 @@
 -- A cell that is put, from store to store.
-use Rattle.std.proofs.Common.{◌≡◌, ℕ, zero, suc, ◌-◌, ◌/◌, ◌%◌, ◌^◌, ◌<◌, Bool, false, cond, eqb, Ok, Err, Result, sym, refl, ◌∙◌, subst, arith}
+use Rattle.std.proofs.Common.{◌≡◌, ℕ, zero, suc, ◌/◌, ◌%◌, ◌^◌, ◌<◌, Bool, false, cond, eqb, Ok, Err, Result, sym, refl, ◌∙◌, subst, arith}
 use mathlib.Core.Path.{transport}
 use Rattle.model.specs.Squares.{Square, Four, nw, ne, sw, se, with_state}
 use Rattle.model.proofs.Shapes.{squares_same, build_right}

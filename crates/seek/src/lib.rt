@@ -1,4 +1,6 @@
 // Single cells of squares in the store, by the path of quarters that leads to them.
+#![tactic(auto)]
+
 ghost use Rattle.std.specs.Prelude.{◌≡◌, suc, ◌+◌, ◌^◌, ◌<◌, ◌≤◌, Bool};
 ghost use Rattle.model.specs.Squares.{Square, state_at};
 ghost use Rattle.pieces.specs.Nine.{Outcome, Given};

@@ -1,4 +1,6 @@
 // What is known of a square by its number: its level, its quarters or its cells, and how many of them live.
+#![tactic(auto)]
+
 ghost use Rattle.std.specs.Prelude.{Bool, ◌≡◌, ℕ, suc, ◌+◌, ◌<◌};
 ghost use Rattle.model.specs.Squares.{Square, living};
 ghost use Rattle.leaf.specs.AsSquares.{word_square};

@@ -1,5 +1,5 @@
 -- A store without squares is good.
-use Rattle.std.proofs.Common.{◌≡◌, ℕ, zero, suc, ◌+◌, ◌-◌, ◌*◌, ◌%◌, ◌<◌, cond, leb, List, length, refl, ap, ◌∙◌, arith}
+use Rattle.std.proofs.Common.{◌≡◌, ℕ, zero, suc, ◌+◌, ◌*◌, ◌%◌, ◌<◌, cond, leb, List, length, refl, ap, ◌∙◌, arith}
 use native.Mathlib.Decide.{ℕ_discrete}
 use Rattle.nodes.specs.Nodes.{Table, Valid, used, limit}
 use Rattle.nodes.specs.Memory.{base, tag, view, LaidAt, GoodAt}

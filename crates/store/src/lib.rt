@@ -1,4 +1,6 @@
 // The store of squares: each different square once, found by its quarters or its cells.
+#![tactic(auto)]
+
 ghost use Rattle.std.specs.Prelude.{◌≡◌, ◌+◌, ◌-◌, ◌*◌, ◌^◌, ◌<◌, ◌≤◌, length};
 ghost use Rattle.nodes.specs.Nodes.{limit};
 ghost use Rattle.nodes.specs.Memory.{FrontAt};

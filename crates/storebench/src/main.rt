@@ -1,6 +1,8 @@
 // Times the store. Reads what to do, in how many words (2 to that power) and how often, as `found 18 5000000`:
 // found and made are interns of nodes that are there and of new ones, leaves those of new leaves, collect is collections of a full store, half of which is held.
 // Counts go to standard output, and the nanoseconds that one took to standard error.
+#![tactic(auto)]
+
 ghost use Rattle.std.specs.Prelude.{◌≡◌, ◌≤◌};
 ghost use Rattle.slots.specs.Stores.{Good};
 ghost use Rattle.trees.specs.Growing.{Kept};

@@ -1,5 +1,5 @@
 -- The steps of a stride.
-use Rattle.std.proofs.Common.{◌≡◌, ℕ, suc, ◌-◌, false, Ok, Err, Result, sym, subst, arith}
+use Rattle.std.proofs.Common.{◌≡◌, ℕ, suc, false, Ok, Err, Result, sym, subst, arith}
 use mathlib.Core.Path.{transport}
 use Rattle.model.specs.Squares.{padded}
 use Rattle.rules.specs.declared.Rule.{Rule}

@@ -1,4 +1,6 @@
 // Strides: a square is padded twice, so that nothing can reach the rim of its leap, and leaps.
+#![tactic(auto)]
+
 ghost use Rattle.std.specs.Prelude.{suc, ◌+◌, ◌<◌, false};
 ghost use Rattle.model.specs.Squares.{padded};
 ghost use Rattle.rules.specs.Laws.{law};

@@ -1,5 +1,5 @@
 -- Trees of squares whose cells come from a seed, and what is held while they are grown.
-use Rattle.std.specs.Prelude.{◌≡◌, ℕ, zero, suc, ◌+◌, ◌-◌, ◌*◌, ◌/◌, ◌%◌, ◌^◌, ◌<◌, ◌≤◌, Bool, cond, Ok, Err, Result, ◌==◌}
+use Rattle.std.specs.Prelude.{◌≡◌, ℕ, zero, suc, ◌+◌, ◌*◌, ◌/◌, ◌%◌, ◌^◌, ◌<◌, ◌≤◌, Bool, cond, Ok, Err, Result, ◌==◌}
 use Rattle.model.specs.Squares.{Square, Four}
 use Rattle.leaf.specs.AsSquares.{word_square}
 use Rattle.slots.specs.declared.Store.{Store}

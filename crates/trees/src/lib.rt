@@ -1,4 +1,6 @@
 // Trees of squares for tests and measurements. Their cells come from a seed.
+#![tactic(auto)]
+
 ghost use Rattle.std.specs.Prelude.{◌≡◌, ◌+◌, ◌-◌, ◌*◌, ◌/◌, ◌%◌, ◌^◌, ◌<◌, ◌≤◌};
 ghost use Rattle.nodes.specs.Memory.{hold_room};
 ghost use Rattle.slots.specs.Stores.{Good};

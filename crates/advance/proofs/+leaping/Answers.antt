@@ -7,7 +7,7 @@ use Rattle.holds.specs.Holding.{Popped}
 use Rattle.holds.proofs.Chain.{still_refl, still_less, still_trans, is_grows}
 use Rattle.pieces.proofs.Steady.{steady_trans, steady_grown, released, number_steady, number_gives}
 use Rattle.advance.proofs.Steps.{nothing_answer, noted_answer, leap_known, has_number, number_task, outcome_map, part_ninth, part_quarter, piece_loose, piece_leap, fours, four_has, four_loose, four_leap, four_middle}
-use Rattle.advance.proofs.Parts.{Loop, rooted, nined, loop_break, loop_more, loop_end, part_has, lasts, lasts_four, joined_is}
+use Rattle.advance.proofs.Parts.{Loop, nined, loop_break, loop_more, loop_end, part_has, lasts, lasts_four, joined_is}
 use Rattle.advance.proofs.+leaping.Goals as goal
 
 pub advance-returns-then-count-eq0 : goal.advance-returns-then-count-eq0

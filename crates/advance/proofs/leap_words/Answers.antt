@@ -1,7 +1,6 @@
 use Rattle.std.proofs.Common.{◌≡◌, ◌*◌, ◌%◌, ◌^◌, sym, ap, ◌∙◌, arith, pow_mono}
 use Rattle.rules.specs.Laws.{law}
 use Rattle.nodes.specs.Memory.{leap_of}
-use Rattle.holds.specs.Holding.{held}
 use Rattle.pieces.proofs.Steady.{leaf_answers}
 use Rattle.advance.proofs.Steps.{quarters_self, words_square}
 use Rattle.advance.proofs.leap_words.Goals as goal

@@ -1,4 +1,4 @@
-use Rattle.std.proofs.Common.{◌≡◌, ℕ, not, T, List, MatchBool, sym, refl, ap, ◌∙◌, subst, arith, w64, rules}
+use Rattle.std.proofs.Common.{◌≡◌, ℕ, not, List, MatchBool, sym, refl, ap, ◌∙◌, subst, arith, w64, rules}
 use Rattle.std.proofs.lemmas.Grind.{common_steps}
 use mir.ValLaws.{to_z-of_z}
 use Rattle.model.specs.Cells.{cell_at, put}
