@@ -1,4 +1,4 @@
-use Rattle.std.proofs.Common.{◌≡◌, ℕ, not, List, MatchBool, sym, refl, ap, ◌∙◌, subst, arith, w64, rules}
+use Rattle.std.proofs.Common.{◌≡◌, true, ℕ, not, List, MatchBool, sym, refl, ap, ◌∙◌, subst, arith, w64, rules}
 use Rattle.std.proofs.lemmas.Grind.{common_steps}
 use mir.ValLaws.{to_z-of_z}
 use Rattle.model.specs.Cells.{cell_at, put}
@@ -33,12 +33,13 @@ returns-then-self-eq-MOST_CELLS c =
     let place = subst (λ (u : List ℕ). Place u s row col i) c.new.ensures c.find-i.ensures in
     let held = subst (λ (u : List ℕ). MatchBool c.holds-there.result (Holds u s i row col) (Holds u s i row col → ⊥)) c.new-2.ensures c.holds-there.ensures in
     let there = place_lives m s row col i c.args.x c.args.y c.holds-there.result c.requires.staged.listed place (c.to_word-column.ensures ∙ ex) (c.to_word-row.ensures ∙ ey) held in
+    let yes : c.args.lives ≡ true = cc in
     record {
       good = c.requires;
       put = (
         not_far c.is_far.result c.args.x c.args.y (c.is_far.ensures ∙ (λ j. far (ex j) (ey j))) c.if-is_far.false,
-        put_crowded m s (world_on c.args.self.now m) (cell_at c.args.x c.args.y) c.args.lives refl c.if-self-eq-MOST_CELLS.true c.if-lives.true
-            (sym there ∙ differ c.holds-there.result c.args.lives c.if-there-lives.false ∙ ap not c.if-lives.true),
+        put_crowded m s (world_on c.args.self.now m) (cell_at c.args.x c.args.y) c.args.lives refl c.if-self-eq-MOST_CELLS.true yes
+            (sym there ∙ differ c.holds-there.result c.args.lives c.if-there-lives.false ∙ ap not yes),
         refl,
       );
     }
