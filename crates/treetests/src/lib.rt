@@ -1,4 +1,6 @@
 // The store of squares held to plain grids: trees are grown, kept over collections, and read again cell by cell.
+#![tactic(auto)]
+
 ghost use Rattle.std.specs.Prelude.{◌≡◌, ◌+◌, ◌*◌, ◌<◌, ◌≤◌, length};
 ghost use Rattle.slots.specs.Stores.{Good, Has};
 ghost use Rattle.trees.specs.Growing.{Kept, Holds};
