@@ -10,12 +10,11 @@ set -u
 cd "$(dirname "$0")/.." || exit 2
 work=$(mktemp -d) || exit 2
 trap 'rm -rf "$work"' EXIT
-mkdir -p "$work/crates/speed/src" && cp -r crates/model crates/rules crates/leaf "$work/crates/" || exit 2
+mkdir -p "$work/crates/speed/src" || exit 2
+git archive HEAD crates/model crates/rules crates/leaf | tar -x -C "$work" || exit 2
 printf '%s\n' 'model:' 'rules: model' 'leaf: model rules' 'speed: leaf rules' >"$work/crates.txt"
 cat >"$work/crates/speed/src/main.rt" <<'PROGRAM'
-use leaf::generation;
-use leaf::generation_plain;
-use leaf::leap16;
+use leaf::{generation, generation_plain, leap16};
 use rules::Rule;
 use std::io;
 use std::time::Instant;
@@ -26,7 +25,7 @@ fn mixed(n: u64) -> u64 {
     (n ^ (n >> 29)).wrapping_mul(0x9e37_79b9_7f4a_7c15)
 }
 
-fn main(rt: LibcRuntime) -> io::Result<()> {
+fn main(rt: HostRuntime) -> io::Result<()> {
     let start = Instant::now(&rt)?;
     let born = if start.elapsed(&rt)?.as_nanos() > 0 { 8 } else { 72 };
     let rule = match Rule::new(born, 12) {
@@ -46,7 +45,7 @@ fn main(rt: LibcRuntime) -> io::Result<()> {
         sum ^= generation(rule, mixed(i));
     }
     let adders = start.elapsed(&rt)?.as_nanos() / 100_000;
-    print!(rt, "plain {plain} adders {adders}")?;
+    print!(rt; "plain {plain} adders {adders}")?;
 
     for n in [1, 2, 4] {
         let start = Instant::now(&rt)?;
@@ -54,12 +53,12 @@ fn main(rt: LibcRuntime) -> io::Result<()> {
             sum ^= leap16(rule, mixed(i), mixed(i + 1), mixed(i + 2), mixed(i + 3), n);
         }
         let leap = start.elapsed(&rt)?.as_nanos() / 100_000;
-        print!(rt, " leap by {n} {leap}")?;
+        print!(rt; " leap by {n} {leap}")?;
     }
-    println!(rt, " ns ({sum})")
+    println!(rt; " ns ({sum})")
 }
 PROGRAM
-said=$(cd "$work" && rt try speed 2>&1 | grep -A1 'at -O3' | grep -o 'plain [^(]* ns')
+said=$(cd "$work/crates/speed" && rt try 2>&1 | grep -o 'plain [^(]* ns')
 [[ -n $said ]] || { echo "bench: the program did not run" >&2; exit 2; }
 echo "$said"
 [[ $said =~ 'leap by 4 '([0-9]+) ]] && ((BASH_REMATCH[1] < 1000))

@@ -3,14 +3,14 @@
 #
 #   bench/run.sh [GENERATIONS]      (5000 if left out)
 #
-# FIELD names another program in place of target/bin/field; REPEAT is how often each is run (3), of which the fastest
+# FIELD names another program in place of crates/field/out/field; REPEAT is how often each is run (3), of which the fastest
 # counts. Times are CPU seconds. Of field's time that of putting the cells is taken off: it is run once more without the run.
 # Exit status: 0 if all agree on the final count (field and plain on the box too), 1 if not, 2 if something is missing.
 set -u
 cd "$(dirname "$0")/.." || exit 2
 generations=${1:-5000}
 repeat=${REPEAT:-3}
-field=${FIELD:-target/bin/field}
+field=${FIELD:-crates/field/out/field}
 work=$(mktemp -d) || exit 2
 trap 'rm -rf "$work"' EXIT
 
@@ -84,4 +84,4 @@ if [[ -n $ours ]]; then
     ratio plain "$plain"
 fi
 [[ $bad == 0 ]] || exit 1
-[[ -n $ours ]] || missing "there is no $field: only the others were run"
+[[ -n $ours ]] || missing "there is no $field (rt run in crates/field makes it): only the others were run"
