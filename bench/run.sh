@@ -3,8 +3,8 @@
 #
 #   bench/run.sh [GENERATIONS]      (5000 if left out)
 #
-# FIELD names another program in place of crates/field/out/field; REPEAT is how often each is run (3), of which the fastest
-# counts. Times are CPU seconds. Of field's time that of putting the cells is taken off: it is run once more without the run.
+# FIELD names another program in place of crates/field/out/field; REPEAT is how often each is run (3), of which the
+# fastest counts. Times are CPU seconds. Of field's time that of putting the cells is taken off: it is run once more without the run.
 # Exit status: 0 if all agree on the final count (field and plain on the box too), 1 if not, 2 if something is missing.
 set -u
 cd "$(dirname "$0")/.." || exit 2

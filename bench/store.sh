@@ -3,8 +3,8 @@
 #
 #   bench/store.sh
 #
-# STOREBENCH names another program in place of crates/storebench/out/storebench; REPEAT is how often each is run (3), of which the
-# fastest counts. Times are elapsed time. Interns of new squares are timed with the collections that they ask for.
+# STOREBENCH names another program in place of crates/storebench/out/storebench; REPEAT is how often each is run (3), of
+# which the fastest counts. Times are elapsed time. Interns of new squares are timed with the collections that they ask for.
 # Exit status: 0 if in 2^18 words 8 million nodes a second are found and 4 million made, 1 if not, 2 if something is missing.
 set -u
 cd "$(dirname "$0")/.." || exit 2

@@ -4,8 +4,8 @@
 usage: tools/snake_names.py [--dry]     at the top of the repository, once, after the kit's port.py
 
 Renames what specs/ and proofs/ define (signatures, fields, constructors, local names): `cellIn` becomes `cell_in`, `leaps-at`
-becomes `leaps_at`. Names that Rattle makes (goals and steps), names of the kit and names of src/ stay. Prints the names that
-would fall together with another and leaves these as they are.
+becomes `leaps_at`. Names that Rattle makes (goals and steps), names of the kit and names of src/ stay. Prints which new names
+are also another's: look at these, and give one of the two another name in OTHER.
 """
 import os
 import re

@@ -5,11 +5,11 @@ use mathlib.Core.List.{List}
 use Prim.Native.Nat.{ℕ, ◌+◌, ◌<◌, ◌≤◌}
 use native.Mathlib.Omega.{arith}
 use Rattle.model.specs.Squares.{Square}
-use Rattle.nodes.specs.Nodes.{IsAt}
+use Rattle.nodes.specs.Nodes.{IsAt, Full}
 use Rattle.nodes.specs.Memory.{view, held_in, KeepsAt}
 use Rattle.nodes.proofs.Memory.{front_refl, front_less, front_trans}
 use Rattle.slots.specs.declared.Store.{Store}
-use Rattle.slots.specs.Stores.{mem, Is, Still, Grows}
+use Rattle.slots.specs.Stores.{mem, table, Is, Still, Grows}
 use Rattle.holds.specs.Holding.{held, Pushed, Popped, Keeping}
 
 -- a fact about a number, from one store to another that lies where it lay
@@ -59,6 +59,10 @@ is_pushed {v = v} {w = w} p h = is_grows v w p.still.at p.still.slots p.grows h
 
 pub is_popped : {t d i : ℕ} {v w : Store} {q : Square Bool} → Popped t v w → Is v d i q → Is w d i q
 is_popped {v = v} {w = w} p h = is_grows v w p.still.at p.still.slots p.grows h
+
+-- a store that is full stays so where holds are let go
+pub full_popped : {t : ℕ} {v w : Store} → Popped t v w → Full v.slots (table v) → Full w.slots (table w)
+full_popped {v = v} {w = w} p h = transport (λ i. Full (sym p.still.slots i) (view (sym p.still.at i) (sym p.words i))) h
 
 -- what was pushed is kept
 pub keeping_new : {d i : ℕ} {v w : Store} {q : Square Bool} → Pushed v w i → Is v d i q → Keeping w v.top d q

@@ -1,16 +1,15 @@
 -- What is kept over steps that leave all holds as they were, and one square more that is gathered.
 use Rattle.std.proofs.Common.{◌≡◌, ℕ, ◌+◌, ◌<◌, Bool, Ok, Err, Result, sym, ap, ◌∙◌, subst, arith}
-use mathlib.Core.Path.{transport}
 use native.Mathlib.Decide.{ℕ_discrete}
 use Rattle.model.specs.Squares.{Square}
-use Rattle.nodes.specs.Nodes.{square_of, Full}
-use Rattle.nodes.specs.Memory.{base, view, FrontAt, GrowsAt}
+use Rattle.nodes.specs.Nodes.{square_of}
+use Rattle.nodes.specs.Memory.{base, FrontAt, GrowsAt}
 use Rattle.nodes.proofs.Memory.{front_less}
 use Rattle.slots.specs.declared.Store.{Store}
 use Rattle.slots.specs.Stores.{mem, table, Good, Has, Is, Fixed, Still}
 use Rattle.holds.specs.declared.Hold.{Hold}
 use Rattle.holds.specs.Holding.{held, Pushed, Popped, Keeping}
-use Rattle.holds.proofs.Chain.{still_less, still_trans, is_still, is_popped, keeping_new, keeping_still}
+use Rattle.holds.proofs.Chain.{still_less, still_trans, is_still, is_popped, keeping_new, keeping_still, full_popped}
 use Rattle.leaf.specs.AsSquares.{word_square}
 use Rattle.store.specs.Interning.{LeafInterned}
 use Rattle.store.specs.declared.Full.{Full as NoRoom}
@@ -50,9 +49,6 @@ pub keeping_back : {t k d : ℕ} {v w : Store} {q : Square Bool} → Still t v w
 keeping_back {t} {k} {d} {v} {w} {q} s l b h p =
     let z = is_self v d (held v k) h in
     record { below = b; is = subst (λ (x : Square Bool). Is v d (held v k) x) (one_square w (is_still s l z) p.is) z }
-
-pub full_popped : {t : ℕ} {v w : Store} → Popped t v w → Full v.slots (table v) → Full w.slots (table w)
-full_popped {v = v} {w = w} p h = transport (λ i. Full (sym p.still.slots i) (view (sym p.still.at i) (sym p.words i))) h
 
 -- one square more
 pub gathered_more : (w u z : Store) (h h' : Hold) (k e d n i : ℕ) (f : ℕ → Square Bool → Square Bool) → Gathered w h k e d n f → Steady w u →

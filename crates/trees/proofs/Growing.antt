@@ -7,7 +7,7 @@ use Rattle.slots.specs.declared.Store.{Store}
 use Rattle.slots.specs.Stores.{Is}
 use Rattle.holds.specs.declared.Hold.{Hold}
 use Rattle.holds.specs.Holding.{held, Popped}
-use Rattle.holds.proofs.Chain.{is_popped}
+use Rattle.holds.proofs.Chain.{is_popped, full_popped}
 use Rattle.collect.specs.Collecting.{FourOf}
 use Rattle.store.specs.declared.Full.{Full}
 use Rattle.store.specs.Interning.{Interned, LeafInterned}
@@ -45,11 +45,11 @@ grown_four l d p = refl
 
 pub made_leaf : (w : Store) (c : ℕ) (r : Result ℕ Full) → LeafInterned w c r → Made w 0 (word_square c) r
 made_leaf w c (Ok i) h = h.is
-made_leaf w c (Err _) h = tt
+made_leaf w c (Err _) h = h
 
 pub made_popped : {t : ℕ} {v w : Store} (d : ℕ) (q : Square Bool) (r : Result ℕ Full) → Popped t v w → Made v d q r → Made w d q r
 made_popped d q (Ok i) o h = is_popped o h
-made_popped d q (Err _) o h = tt
+made_popped d q (Err _) o h = full_popped o h
 
 -- the four quarters of the tree at p, by number
 pub record Four-are (w : Store) (l : Leaves) (d : ℕ) (p : Place) (q : Quarters) : Type 0 where
@@ -63,7 +63,7 @@ four_of_lem h = record { has_nw = h.is_nw.valid; has_ne = h.is_ne.valid; has_sw 
 
 pub made_four : {v : Store} {l : Leaves} {d : ℕ} {p : Place} {q : Quarters} (w : Store) (r : Result ℕ Full) → Four-are v l d p q → Interned v w d q r → Made w (suc d) (grown l (suc d) p) r
 made_four {l = l} {d = d} {p = p} w (Ok i) h f = subst (Is w (suc d) i) (grown_four l d p) (f _ _ _ _ h.is_nw h.is_ne h.is_sw h.is_se).is
-made_four w (Err _) h f = tt
+made_four w (Err _) h f = f
 
 -- a row of four that began with quarter f
 abbrev Quartered : (v w : Store) (t f d : ℕ) → Hold → Leaves → Place → Type 0

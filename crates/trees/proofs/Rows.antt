@@ -7,7 +7,7 @@ use Rattle.slots.specs.Stores.{Same, Good, Has, Is, Still, table}
 use Rattle.holds.specs.declared.Hold.{Hold}
 use Rattle.holds.specs.Holding.{held, Pushed, Popped}
 use Rattle.holds.proofs.Chain.{still_refl, still_less, still_trans, is_still, keeping_new}
-use Rattle.trees.specs.Growing.{Kept, Taken, Row, Holds}
+use Rattle.trees.specs.Growing.{Kept, Taken, Row, Holds, Each}
 
 still_on : {v w u : Store} {t : ℕ} → Still t v w → t ≤ w.top → Still w.top w u → Still t v u
 still_on p l q = still_trans p (still_less l q)
@@ -97,7 +97,18 @@ has_still {d = d} {k = k} {v = v} p l h = (is_still {q = square_of (table v) d (
 pub holds_kept : {v w : Store} {h : Hold} {n d : ℕ} → Kept v w → Holds v h n d → Holds w h n d
 holds_kept k b = let e = k.top in let l = b.below in record { len = b.len; below = omega arith; each = λ j i. has_still k.still (omega arith) (b.each j i) }
 
+pub row_is : {v w : Store} {t : ℕ} {h : Hold} {d n : ℕ} {p : ℕ → Square Bool} → Row v w t h d n p → Each w h d p
+row_is {w = w} {d = d} {p = p} r = let m = r.len in λ j l. subst (λ (t : ℕ). Is w d (held w (t + j)) (p j)) (sym r.taken.from) (r.each j (omega arith))
+
 pub row_holds : {v w : Store} {t : ℕ} {h : Hold} {d n : ℕ} {p : ℕ → Square Bool} → Row v w t h d n p → Holds w h n d
-row_holds {w = w} {d = d} r =
+row_holds r =
     let f = r.taken.from in let e = r.taken.last.ends in let m = r.len in
-    record { len = m; below = omega arith; each = λ j l. subst (λ (t : ℕ). Has w d (held w (t + j))) (sym f) (r.each j l).valid }
+    record { len = m; below = omega arith; each = λ j l. (row_is r j (omega arith)).valid }
+
+-- a hold of one tree is a row of one
+pub row_one : {v w : Store} {h : Hold} {d : ℕ} (p q : ℕ → Square Bool) → q 0 ≡ p 0 → Taken v w v.top h → Holds w h 1 d → Each w h d p → Row w w h.from h d 1 q
+row_one {w = w} {h = h} {d = d} p q e a b f = let m = b.len in record {
+  taken = taken_here a;
+  len = m;
+  each = below_more (λ j. Is w d (held w (h.from + j)) (q j)) 0 (λ j l. absurd (omega arith)) (subst (Is w d (held w (h.from + 0))) (sym e) (f 0 (omega arith)));
+}

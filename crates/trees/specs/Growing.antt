@@ -1,9 +1,11 @@
 -- Trees of squares whose cells come from a seed, and what is held while they are grown.
-use Rattle.std.specs.Prelude.{◌≡◌, ℕ, zero, suc, ◌+◌, ◌*◌, ◌/◌, ◌%◌, ◌^◌, ◌<◌, ◌≤◌, Bool, cond, Ok, Err, Result, ◌==◌}
+use Rattle.std.specs.Prelude.{◌≡◌, ℕ, zero, suc, ◌+◌, ◌*◌, ◌/◌, ◌%◌, ◌^◌, ◌<◌, ◌≤◌, Bool, cond, Ok, Err, Result, MatchBool, ◌==◌}
 use Rattle.model.specs.Squares.{Square, Four}
 use Rattle.leaf.specs.AsSquares.{word_square}
+use Rattle.nodes.specs.declared.Quarters.{Quarters}
+use Rattle.nodes.specs.Nodes as nodes
 use Rattle.slots.specs.declared.Store.{Store}
-use Rattle.slots.specs.Stores.{Same, Good, Has, Is, Still}
+use Rattle.slots.specs.Stores.{Same, Good, Has, Is, Still, table}
 use Rattle.holds.specs.declared.Hold.{Hold}
 use Rattle.holds.specs.Holding.{held, Last}
 use Rattle.store.specs.declared.Full.{Full}
@@ -45,10 +47,13 @@ pub record Kept (v w : Store) : Type 0 where
   pub still : Still v.top v w
   pub top : w.top ≡ v.top
 
+abbrev pub IsFull : Store → Type 0
+IsFull s = nodes.Full s.slots (table s)
+
 -- the number of the square q, or the store is full
 abbrev pub Made : Store → (d : ℕ) → Square Bool → Result ℕ Full → Type 0
 Made w d q (Ok i) = Is w d i q
-Made w d q (Err _) = Unit {0}
+Made w d q (Err _) = IsFull w
 
 -- Since v the hold h was taken, from hold t on. It is the last, and the holds below t are as they were.
 pub record Taken (v w : Store) (t : ℕ) (h : Hold) : Type 0 where
@@ -70,12 +75,25 @@ pub record Holds (s : Store) (h : Hold) (n d : ℕ) : Type 0 where
   pub below : h.from + n ≤ s.top
   pub each : (j : ℕ) → j < n → Has s d (held s (h.from + j))
 
--- a hold of n squares of depth d was taken; or the store is full
-abbrev pub TakenOr : Store → Store → (n d : ℕ) → Result Hold Full → Type 0
-TakenOr v w n d (Ok h) = Taken v w v.top h × Holds w h n d
-TakenOr v w n d (Err _) = Kept v w
+-- the j-th square that h holds is p j
+abbrev pub Each : Store → Hold → (d : ℕ) → (ℕ → Square Bool) → Type 0
+Each s h d p = (j : ℕ) → j < h.len → Is s d (held s (h.from + j)) (p j)
 
--- a hold of at most n trees was taken; or the store is full before the first
-abbrev pub GroveOr : Store → Store → (n : ℕ) → Result Grove Full → Type 0
-GroveOr v w n (Ok r) = Taken v w v.top r.hold × (r.hold.len ≤ n)
-GroveOr v w n (Err _) = Kept v w
+-- a hold of n squares of depth d was taken, the j-th of which is p j; or the store is full
+abbrev pub TakenOr : Store → Store → (n d : ℕ) → (ℕ → Square Bool) → Result Hold Full → Type 0
+TakenOr v w n d p (Ok h) = Taken v w v.top h × Holds w h n d × Each w h d p
+TakenOr v w n d p (Err _) = Kept v w × IsFull w
+
+-- a hold of n trees was taken, or of fewer, and the store is full; or it is full before the first
+abbrev pub GroveOr : Store → Store → (n d : ℕ) → (ℕ → Square Bool) → Result Grove Full → Type 0
+GroveOr v w n d p (Ok r) = Taken v w v.top r.hold × (r.hold.len ≤ n) × Each w r.hold d p × MatchBool r.full (IsFull w) (r.hold.len ≡ n)
+GroveOr v w n d p (Err _) = Kept v w × IsFull w
+
+-- the four squares of a bed that a key names
+abbrev pub woven : Store → Hold → ℕ → Quarters
+woven s h key = record {
+  nw = held s (h.from + key % 1024);
+  ne = held s (h.from + key / 1024 % 1024);
+  sw = held s (h.from + key / 1024 ^ 2 % 1024);
+  se = held s (h.from + key / 1024 ^ 3 % 1024);
+}

@@ -1,10 +1,12 @@
 // Trees of squares for tests and measurements. Their cells come from a seed.
 #![tactic(auto)]
 
-ghost use Rattle.std.specs.Prelude.{◌≡◌, ◌+◌, ◌-◌, ◌*◌, ◌/◌, ◌%◌, ◌^◌, ◌<◌, ◌≤◌};
+ghost use Rattle.std.specs.Prelude.{◌≡◌, ◌+◌, ◌-◌, ◌*◌, ◌/◌, ◌%◌, ◌^◌, ◌<◌, ◌≤◌, if◌then◌else◌, MatchResult};
 ghost use Rattle.nodes.specs.Memory.{hold_room};
+ghost use Rattle.leaf.specs.AsSquares.{word_square};
 ghost use Rattle.slots.specs.Stores.{Good};
-ghost use Rattle.trees.specs.Growing.{mix, spread, cells_at, quarter_at, grown, Inside, Kept, Made, Holds, TakenOr, GroveOr};
+ghost use Rattle.store.specs.Interning.{Interned};
+ghost use Rattle.trees.specs.Growing.{mix, spread, cells_at, quarter_at, grown, Inside, Kept, IsFull, Made, Holds, TakenOr, GroveOr, woven};
 
 use holds::Hold;
 use nodes::Quarters;
@@ -129,7 +131,7 @@ pub fn grow_held(
     requires good { Good store.old }
     requires room { store.old.top + 4 * depth < hold_room }
     requires inside { (depth ≤ 40) × ((Inside (40 - depth) place) × (0 < leaves.kinds)) }
-    ensures { TakenOr store.old store.new 1 depth result }
+    ensures { TakenOr store.old store.new 1 depth (λ _. grown leaves depth place) result }
 {
     let number = grow(store, leaves, depth, place, order)?;
     Ok(Hold::take(store, number))
@@ -141,6 +143,7 @@ pub fn churn(store: &mut Store, leaves: Leaves, depth: usize, trees: u64) -> Res
     requires room { store.old.top + 4 * depth ≤ hold_room }
     requires inside { (depth < 20) × ((trees < 2 ^ 20) × (0 < leaves.kinds)) }
     ensures kept { Kept store.old store.new }
+    ensures most { MatchResult result (λ n. n ≤ trees) (λ _. IsFull store.new) }
 {
     let mut collections = 0u64;
     for x in 0..trees {
@@ -165,7 +168,7 @@ pub fn grow_many(store: &mut Store, leaves: Leaves, depth: usize, trees: u64) ->
     requires good { Good store.old }
     requires room { store.old.top + 4 * depth + trees ≤ hold_room }
     requires inside { (depth < 20) × ((0 < trees) × (0 < leaves.kinds)) }
-    ensures { GroveOr store.old store.new trees result }
+    ensures { GroveOr store.old store.new trees depth (λ x. grown leaves depth (record { x = x; y = 0 })) result }
 {
     let mut hold = grow_held(store, leaves, depth, Place { x: 0, y: 0 }, 0)?;
     for x in 1..trees {
@@ -185,7 +188,7 @@ const BED: u64 = 1024;
 pub fn plant(store: &mut Store, seed: u64) -> Result<Hold, Full>
     requires good { Good store.old }
     requires room { store.old.top + 1024 ≤ hold_room }
-    ensures { TakenOr store.old store.new 1024 0 result }
+    ensures { TakenOr store.old store.new 1024 0 (λ k. word_square (mix seed k)) result }
 {
     let number = intern_leaf(store, mix(seed, 0))?;
     let mut hold = Hold::take(store, number);
@@ -207,6 +210,7 @@ pub fn weave(store: &mut Store, bed: &Hold, key: u64) -> Result<usize, Full>
     requires bed { Holds store.old bed.now 1024 0 }
     ensures kept { Kept store.old store.new }
     ensures bed { Holds store.new bed.now 1024 0 }
+    ensures is { Interned store.old store.new 0 (woven store.old bed.now key) result }
 {
     let quarters = Quarters {
         nw: bed.number(store, (key % BED) as usize),
@@ -225,25 +229,39 @@ pub struct Tally {
     pub collections: u64,
 }
 
+impl Tally {
+    const NONE: Tally = Tally {
+        sum: 0,
+        collections: 0,
+    };
+
+    // One intern more, which gave this number.
+    fn add(&mut self, number: usize, collected: bool)
+        requires { self.old.collections < 2 ^ 64 - 1 }
+        ensures sum { self.new.sum ≡ (self.old.sum + number) % 2 ^ 64 }
+        ensures collections { self.new.collections ≡ self.old.collections + (if collected then 1 else 0) }
+    {
+        self.sum = self.sum.wrapping_add(number);
+        if collected {
+            self.collections += 1;
+        }
+    }
+}
+
 // Interns so many nodes. The mask is a power of two less 1; so many turns and one go through all nodes that there are, in an order without order.
 pub fn weave_often(store: &mut Store, bed: &Hold, turns: u64, mask: u64) -> Result<Tally, Full>
     requires good { Good store.old }
     requires bed { Holds store.old bed.now 1024 0 }
     ensures kept { Kept store.old store.new }
     ensures bed { Holds store.new bed.now 1024 0 }
+    ensures most { MatchResult result (λ t. t.collections ≤ turns) (λ _. IsFull store.new) }
 {
-    let mut tally = Tally {
-        sum: 0,
-        collections: 0,
-    };
+    let mut tally = Tally::NONE;
     for turn in 0..turns {
         let left = store.left;
         let node = turn.wrapping_mul(FIRST_FACTOR) & mask;
         let number = weave(store, bed, mix(node, 0))?;
-        tally.sum = tally.sum.wrapping_add(number);
-        if store.left > left {
-            tally.collections = tally.collections.wrapping_add(1);
-        }
+        tally.add(number, store.left > left);
     }
     Ok(tally)
 }
@@ -252,18 +270,13 @@ pub fn weave_often(store: &mut Store, bed: &Hold, turns: u64, mask: u64) -> Resu
 pub fn sow(store: &mut Store, seed: u64, turns: u64) -> Result<Tally, Full>
     requires good { Good store.old }
     ensures kept { Kept store.old store.new }
+    ensures most { MatchResult result (λ t. t.collections ≤ turns) (λ _. IsFull store.new) }
 {
-    let mut tally = Tally {
-        sum: 0,
-        collections: 0,
-    };
+    let mut tally = Tally::NONE;
     for turn in 0..turns {
         let left = store.left;
         let number = intern_leaf(store, mix(seed, turn))?;
-        tally.sum = tally.sum.wrapping_add(number);
-        if store.left > left {
-            tally.collections = tally.collections.wrapping_add(1);
-        }
+        tally.add(number, store.left > left);
     }
     Ok(tally)
 }

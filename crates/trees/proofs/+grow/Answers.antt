@@ -2,6 +2,7 @@ use Rattle.std.proofs.Common.{◌≡◌, ℕ, suc, ◌+◌, ◌-◌, ◌%◌, �
 use Rattle.leaf.specs.AsSquares.{word_square}
 use Rattle.slots.specs.Stores.{Is}
 use Rattle.holds.specs.declared.Hold.{Hold}
+use Rattle.holds.proofs.Chain.{full_popped}
 use Rattle.trees.specs.declared.Place.{Place}
 use Rattle.trees.specs.Growing.{quarter_at, grown, Inside, Made}
 use Rattle.trees.proofs.Rows.{taken_new, taken_from, taken_trans, taken_on, taken_end, row_new, row_here, row_on, row_more}
@@ -66,7 +67,7 @@ pub returns-in-Err : goal.returns-in-Err
 returns-in-Err t c =
     let e = c.in_ok-number.ensures in let f = c.take-hold.ensures in let g = c.release.ensures in
     let k = taken_from e.kept (taken_new f.same f.good f.pushed f.is) in
-    record { kept = taken_end (taken_trans k (taken_on c.loop-k.invariant.taken c.in-Err.ensures.kept)) g.same g.good g.popped; is = tt }
+    record { kept = taken_end (taken_trans k (taken_on c.loop-k.invariant.taken c.in-Err.ensures.kept)) g.same g.good g.popped; is = full_popped g.popped c.in-Err.ensures.is }
 
 pub loop-k-preserved : goal.loop-k-preserved
 loop-k-preserved t c =

@@ -1,6 +1,5 @@
-use Rattle.std.proofs.Common.{◌≡◌}
-use Rattle.trees.specs.Growing.{Taken}
+use Rattle.trees.specs.Growing.{Row, grown}
 use Rattle.trees.proofs.grow_many.Given as goal
 
 abbrev pub invariant-loop-x : goal.invariant-loop-x
-invariant-loop-x l = Taken l.initial.store l.store l.initial.hold.from l.hold × (l.hold.len ≡ l.x)
+invariant-loop-x l = Row l.initial.store l.store l.initial.hold.from l.hold l.depth l.x (λ x. grown l.leaves l.depth (record { x = x; y = 0 }))

@@ -1,8 +1,9 @@
 use Rattle.std.proofs.Common.{ℕ, ap, subst, arith}
 use Rattle.leaf.specs.AsSquares.{word_square}
 use Rattle.slots.specs.Stores.{Is}
+use Rattle.holds.proofs.Chain.{full_popped}
 use Rattle.trees.specs.Growing.{mix, Holds}
-use Rattle.trees.proofs.Rows.{taken_new, taken_from, taken_trans, taken_end, row_new, row_here, row_on, row_more, row_holds}
+use Rattle.trees.proofs.Rows.{taken_new, taken_from, taken_trans, taken_end, row_new, row_here, row_on, row_more, row_holds, row_is}
 use Rattle.trees.proofs.plant.Goals as goal
 
 pub loop-k-init : goal.loop-k-init
@@ -14,7 +15,7 @@ pub returns-in-Err : goal.returns-in-Err
 returns-in-Err c =
     let e = c.in_ok-number.ensures in let f = c.take-hold.ensures in let i = c.in-Err.ensures in let g = c.release.ensures in
     let k = taken_from (record { same = e.same; good = e.good; still = e.still; top = e.top }) (taken_new f.same f.good f.pushed f.is) in
-    taken_end (taken_trans k (row_on c.loop-k.invariant (record { same = i.same; good = i.good; still = i.still; top = i.top })).taken) g.same g.good g.popped
+    (taken_end (taken_trans k (row_on c.loop-k.invariant (record { same = i.same; good = i.good; still = i.still; top = i.top })).taken) g.same g.good g.popped, full_popped g.popped i.is)
 
 pub loop-k-preserved : goal.loop-k-preserved
 loop-k-preserved c =
@@ -26,4 +27,4 @@ pub returns : goal.returns
 returns c =
     let e = c.in_ok-number.ensures in let f = c.take-hold.ensures in let b = c.loop-k-test.false in let m = c.loop-k.auto.k-end (omega arith) in
     let k = taken_from (record { same = e.same; good = e.good; still = e.still; top = e.top }) (taken_new f.same f.good f.pushed f.is) in
-    (taken_trans k c.loop-k.invariant.taken, subst (λ (n : ℕ). Holds c.loop-k.store c.loop-k.hold n 0) (omega arith) (row_holds c.loop-k.invariant))
+    (taken_trans k c.loop-k.invariant.taken, subst (λ (n : ℕ). Holds c.loop-k.store c.loop-k.hold n 0) (omega arith) (row_holds c.loop-k.invariant), row_is c.loop-k.invariant)
