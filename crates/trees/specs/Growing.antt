@@ -47,6 +47,7 @@ pub record Kept (v w : Store) : Type 0 where
   pub still : Still v.top v w
   pub top : w.top ≡ v.top
 
+-- at least three quarters of the slots hold squares
 abbrev pub IsFull : Store → Type 0
 IsFull s = nodes.Full s.slots (table s)
 
