@@ -13,7 +13,8 @@ use Rattle.store.specs.declared.Full.{Full}
 use Rattle.store.specs.Interning.{Interned, LeafInterned}
 use Rattle.trees.specs.declared.Leaves.{Leaves}
 use Rattle.trees.specs.declared.Place.{Place}
-use Rattle.trees.specs.Growing.{cells_at, quarter_at, grown, Inside, Made, Row}
+use Rattle.trees.proofs.Rows.{Row}
+use Rattle.trees.specs.Growing.{cells_at, quarter_at, grown, Inside, Made}
 
 pub inside_quarter : (d k : ℕ) (p : Place) → 0 < d → d ≤ 40 → k < 4 → Inside (40 - d) p → Inside (40 - (d - 1)) (quarter_at p k)
 inside_quarter d k p s m l h =

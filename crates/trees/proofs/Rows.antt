@@ -7,7 +7,7 @@ use Rattle.slots.specs.Stores.{Same, Good, Has, Is, Still, table}
 use Rattle.holds.specs.declared.Hold.{Hold}
 use Rattle.holds.specs.Holding.{held, Pushed, Popped}
 use Rattle.holds.proofs.Chain.{still_refl, still_less, still_trans, is_still, keeping_new}
-use Rattle.trees.specs.Growing.{Kept, Taken, Row, Holds, Each}
+use Rattle.trees.specs.Growing.{Kept, Taken, Holds, Each}
 
 still_on : {v w u : Store} {t : ℕ} → Still t v w → t ≤ w.top → Still w.top w u → Still t v u
 still_on p l q = still_trans p (still_less l q)
@@ -59,6 +59,12 @@ taken_more r s g a e =
 pub taken_end : {v w u : Store} {h : Hold} → Taken v w v.top h → Same w u → Good u → Popped h.from w u → Kept v u
 taken_end {w = w} {u = u} r s g o =
     record { same = s ∙ r.same; good = g; still = still_trans r.still (subst (λ (t : ℕ). Still t w u) r.from o.still); top = o.top ∙ r.from }
+
+-- a hold was taken, of n squares of depth d, the j-th of which is p j
+pub record Row (v w : Store) (t : ℕ) (h : Hold) (d n : ℕ) (p : ℕ → Square Bool) : Type 0 where
+  pub taken : Taken v w t h
+  pub len : h.len ≡ n
+  pub each : (j : ℕ) → j < n → Is w d (held w (t + j)) (p j)
 
 pub row_new : {v w : Store} {h : Hold} {d i : ℕ} (p : ℕ → Square Bool) → Is v d i (p 0) → Same v w → Good w → Pushed v w i → h ≡ record { from = v.top; len = 1; done = false } → Row v w v.top h d 1 p
 row_new {v = v} {w = w} {d = d} p s m g a e = record {

@@ -64,12 +64,6 @@ pub record Taken (v w : Store) (t : ℕ) (h : Hold) : Type 0 where
   pub from : h.from ≡ t
   pub last : Last w h
 
--- and it holds n squares of depth d; the j-th is p j
-pub record Row (v w : Store) (t : ℕ) (h : Hold) (d n : ℕ) (p : ℕ → Square Bool) : Type 0 where
-  pub taken : Taken v w t h
-  pub len : h.len ≡ n
-  pub each : (j : ℕ) → j < n → Is w d (held w (t + j)) (p j)
-
 -- h holds n squares of depth d
 pub record Holds (s : Store) (h : Hold) (n d : ℕ) : Type 0 where
   pub len : h.len ≡ n

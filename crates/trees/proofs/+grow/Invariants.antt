@@ -1,5 +1,6 @@
 use Rattle.std.proofs.Common.{◌+◌, ◌-◌, ◌%◌}
-use Rattle.trees.specs.Growing.{Row, grown, quarter_at}
+use Rattle.trees.specs.Growing.{grown, quarter_at}
+use Rattle.trees.proofs.Rows.{Row}
 use Rattle.trees.proofs.+grow.Given as goal
 
 abbrev pub decreases-grow : goal.decreases-grow

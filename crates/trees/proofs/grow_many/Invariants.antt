@@ -1,4 +1,5 @@
-use Rattle.trees.specs.Growing.{Row, grown}
+use Rattle.trees.specs.Growing.{grown}
+use Rattle.trees.proofs.Rows.{Row}
 use Rattle.trees.proofs.grow_many.Given as goal
 
 abbrev pub invariant-loop-x : goal.invariant-loop-x

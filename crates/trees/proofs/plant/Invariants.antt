@@ -1,5 +1,6 @@
 use Rattle.leaf.specs.AsSquares.{word_square}
-use Rattle.trees.specs.Growing.{mix, Row}
+use Rattle.trees.specs.Growing.{mix}
+use Rattle.trees.proofs.Rows.{Row}
 use Rattle.trees.proofs.plant.Given as goal
 
 abbrev pub invariant-loop-k : goal.invariant-loop-k
