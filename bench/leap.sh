@@ -4,7 +4,7 @@
 #   bench/leap.sh
 #
 # A program that times them is proved, built and run over a copy of the crates. Times are nanoseconds of elapsed time for
-# one call, under b3s23, which the compiler does not know.
+# one call, under b3s23, which has a way of its own through words, and b36s23; the compiler knows neither.
 # Exit status: 0 if a leap by four generations takes less than a microsecond, 1 if not, 2 if something is missing.
 set -u
 cd "$(dirname "$0")/.." || exit 2
@@ -16,11 +16,10 @@ printf '%s\n' 'model:' 'rules: model' 'leaf: model rules' 'speed: model leaf rul
 cat >"$work/crates/speed/src/main.rt" <<'PROGRAM'
 #![tactic(auto)]
 
-ghost use Rattle.std.specs.Prelude.{◌≤◌, T};
-ghost use Rattle.model.specs.Rules.{good_rule};
-ghost use Rattle.rules.specs.Laws.{law};
+ghost use Rattle.std.specs.Prelude.{◌≤◌};
 
 use leaf::{generation, generation_plain, leap16};
+use model::Quarters;
 use rules::Rule;
 use std::io;
 use std::time::Instant;
@@ -32,7 +31,6 @@ fn mixed(n: u64) -> u64 {
 }
 
 fn rule_of(born: u16, stays: u16) -> Rule
-    ensures { T (good_rule (law result)) }
 {
     match Rule::new(born, stays) {
         Ok(rule) => rule,
@@ -41,7 +39,6 @@ fn rule_of(born: u16, stays: u16) -> Rule
 }
 
 fn plain(rt: &HostRuntime, rule: Rule, sum: &mut u64) -> io::Result<u128>
-    requires { T (good_rule (law rule)) }
 {
     let start = Instant::now(rt)?;
     for i in 0..CALLS {
@@ -51,7 +48,6 @@ fn plain(rt: &HostRuntime, rule: Rule, sum: &mut u64) -> io::Result<u128>
 }
 
 fn adders(rt: &HostRuntime, rule: Rule, sum: &mut u64) -> io::Result<u128>
-    requires { T (good_rule (law rule)) }
 {
     let start = Instant::now(rt)?;
     for i in 0..CALLS {
@@ -61,30 +57,41 @@ fn adders(rt: &HostRuntime, rule: Rule, sum: &mut u64) -> io::Result<u128>
 }
 
 fn leaps(rt: &HostRuntime, rule: Rule, n: u32, sum: &mut u64) -> io::Result<u128>
-    requires good { T (good_rule (law rule)) }
-    requires four { n ≤ 4 }
+    requires { n ≤ 4 }
 {
     let start = Instant::now(rt)?;
     for i in 0..CALLS {
-        *sum ^= leap16(rule, mixed(i), mixed(i + 1), mixed(i + 2), mixed(i + 3), n);
+        let four = Quarters {
+            nw: mixed(i),
+            ne: mixed(i + 1),
+            sw: mixed(i + 2),
+            se: mixed(i + 3),
+        };
+        *sum ^= leap16(rule, four, n);
     }
     Ok(start.elapsed(rt)?.as_nanos() / 1_000_000)
 }
 
-fn main(rt: HostRuntime) -> io::Result<()> {
-    let start = Instant::now(&rt)?;
-    let born = if start.elapsed(&rt)?.as_nanos() > 0 { 8 } else { 72 };
+// Times one rule, given by the number of its births.
+fn time(rt: &HostRuntime, name: &str, born: u16) -> io::Result<()> {
     let rule = rule_of(born, 12);
     let mut sum = 0;
-    let plain = plain(&rt, rule, &mut sum)?;
-    let adders = adders(&rt, rule, &mut sum)?;
-    let one = leaps(&rt, rule, 1, &mut sum)?;
-    let two = leaps(&rt, rule, 2, &mut sum)?;
-    let four = leaps(&rt, rule, 4, &mut sum)?;
-    println!(rt; "plain {plain} adders {adders} leap by 1 {one} leap by 2 {two} leap by 4 {four} ns ({sum})")
+    let plain = plain(rt, rule, &mut sum)?;
+    let adders = adders(rt, rule, &mut sum)?;
+    let one = leaps(rt, rule, 1, &mut sum)?;
+    let two = leaps(rt, rule, 2, &mut sum)?;
+    let four = leaps(rt, rule, 4, &mut sum)?;
+    println!(rt; "{name}: plain {plain} adders {adders} leap by 1 {one} leap by 2 {two} leap by 4 {four} ns ({sum})")
+}
+
+fn main(rt: HostRuntime) -> io::Result<()> {
+    let start = Instant::now(&rt)?;
+    let still = start.elapsed(&rt)?.as_nanos() == 0;
+    time(&rt, "b3s23", if still { 72 } else { 8 })?;
+    time(&rt, "b36s23", if still { 8 } else { 72 })
 }
 PROGRAM
-said=$(cd "$work/crates/speed" && rt run 2>"$work/errors" | grep -o 'plain [^(]* ns')
+said=$(cd "$work/crates/speed" && rt run 2>"$work/errors" | grep -o '^b[^(]* ns')
 [[ -n $said ]] || { cat "$work/errors" >&2; echo "bench: the program did not run" >&2; exit 2; }
 echo "$said"
 [[ $said =~ 'leap by 4 '([0-9]+) ]] && ((BASH_REMATCH[1] < 1000))

@@ -4,10 +4,9 @@ use native.Mathlib.Decide.{ℕ_discrete}
 use Rattle.model.specs.Planes.{always}
 use Rattle.model.specs.Rules.{Rule as Law, life}
 use Rattle.model.specs.Squares.{Square, Four, nw, ne, sw, se, level, living, leap_by, middle}
-use Rattle.rules.specs.declared.Rule.{Rule}
 use Rattle.rules.specs.Laws.{law}
 use Rattle.leaf.specs.AsSquares.{word_square, four_words}
-use Rattle.nodes.specs.declared.Quarters.{Quarters}
+use Rattle.model.specs.declared.quarters.Quarters.{Quarters}
 use Rattle.nodes.specs.Nodes.{square_of}
 use Rattle.nodes.specs.Memory.{leap_of}
 use Rattle.slots.specs.declared.Store.{Store}
@@ -15,48 +14,49 @@ use Rattle.slots.specs.Stores.{table, Good, Has, Is}
 use Rattle.holds.specs.declared.Hold.{Hold}
 use Rattle.holds.specs.Holding.{held, Pushed, Keeping}
 use Rattle.holds.proofs.Chain.{held_still, keeping_new}
-use Rattle.notes.specs.Noting.{IsLeapOf}
+use Rattle.notes.specs.declared.Leap.{Leap}
+use Rattle.notes.specs.Noting.{leap_to, IsLeapOf}
 use Rattle.squares.specs.Parts.{QuartersOf}
 use Rattle.store.specs.declared.Full.{Full as NoRoom}
 use Rattle.store.specs.Interning.{Interned}
 use Rattle.collect.specs.Collecting.{FourOf}
-use Rattle.pieces.specs.Nine.{ninth, Steady, Answers, Outcome, Given, Gives, IsMiddle}
+use Rattle.pieces.specs.Nine.{ninth, Steady, Answers, Outcome, Given, Gives, IsMiddle, MiddleGiven}
 use Rattle.pieces.proofs.Nine.{four_of_lem, is_self}
 use Rattle.pieces.proofs.Steady.{steady_trans, keeping_steady, keeping_self, has_steady}
 use Rattle.advance.specs.Advancing.{touching, four_of, inner, ninth_leap, quarter_leap, part_of, Task}
-use Rattle.advance.specs.Gathering.{Rooted, Nined, Loose}
+use Rattle.advance.specs.Gathering.{part, nine, inner_of, Rooted, Nined, Loose}
+use Rattle.advance.specs.declared.Larger.{Larger}
 use Rattle.advance.proofs.Leaping.{Twice, leap_small, leap_full, square_level, leap_nothing, cond_true, cond_false}
 
 -- ---- advance
-pub nothing_answer : (v : Store) (r : Rule) (e p k i n : ℕ) (f : Quarters) → Task v r e p k → i ≡ held v k →
+pub nothing_answer : (v : Store) (le : Leap) (p k i n : ℕ) (f : Quarters ℕ) → Task v le p k → i ≡ held v k →
     ((d : ℕ) (q : Square Bool) → Is v d i q → n ≡ living q) → n ≡ 0 → ((d : ℕ) (q : Square Bool) → Is v (suc d) i q → QuartersOf v d q f) →
-    Answers (suc p) p k (leap_of (law r) e p) v v (Ok f.nw)
-nothing_answer v r e p k i n f t z c e0 h = λ q b.
+    Answers (suc p) p k (leap_to le p) v v (Ok f.nw)
+nothing_answer v le p k i n f t z c e0 h = λ q b.
     let is = subst (λ (j : ℕ). Is v (suc p) j q) (sym z) b.is in
     let l = subst (λ (s : Square Bool). T (level (suc (suc (suc (suc p)))) s)) is.same (square_level (table v) (suc p) i) in
-    subst (Is v p f.nw) (leap_nothing (law r) t.rule e p q (let y = t.power in omega arith) l (sym (c (suc p) q is) ∙ e0)) (h p q is).is_nw
+    subst (Is v p f.nw) (leap_nothing (law le.rule) le.rule.good le.exponent p q (let y = t.power in omega arith) l (sym (c (suc p) q is) ∙ e0)) (h p q is).is_nw
 
-pub noted_answer : (v : Store) (r : Rule) (e p k i l : ℕ) → i ≡ held v k → IsLeapOf v r e p i l → Answers (suc p) p k (leap_of (law r) e p) v v (Ok l)
-noted_answer v r e p k i l z h = λ q b.
+pub noted_answer : (v : Store) (le : Leap) (p k i l : ℕ) → i ≡ held v k → IsLeapOf v le p i l → Answers (suc p) p k (leap_to le p) v v (Ok l)
+noted_answer v le p k i l z h = λ q b.
     let s = ap (square_of (table v) (suc p)) z ∙ b.is.same in
-    subst (λ (x : Square Bool). Is v p l (leap_of (law r) e p x)) s h
+    subst (λ (x : Square Bool). Is v p l (leap_to le p x)) s h
 
-pub leap_known : (v w : Store) (r : Rule) (e p k i l : ℕ) → Task v r e p k → i ≡ held v k → Steady v w → Answers (suc p) p k (leap_of (law r) e p) v w (Ok l) → IsLeapOf w r e p i l
-leap_known v w r e p k i l t z s h =
+pub leap_known : (v w : Store) (le : Leap) (p k i l : ℕ) → Task v le p k → i ≡ held v k → Steady v w → Answers (suc p) p k (leap_to le p) v w (Ok l) → IsLeapOf w le p i l
+leap_known v w le p k i l t z s h =
     let b = keeping_self v k (suc p) t.below t.has in let c = keeping_steady s b in
     let n : held w k ≡ i = held_still s.still k t.below ∙ sym z in
-    subst (λ (x : Square Bool). Is w p l (leap_of (law r) e p x)) (sym c.is.same ∙ ap (square_of (table w) (suc p)) n) (h _ b)
+    subst (λ (x : Square Bool). Is w p l (leap_to le p x)) (sym c.is.same ∙ ap (square_of (table w) (suc p)) n) (h _ b)
 
-pub has_number : (v w : Store) (r : Rule) (e p k i : ℕ) → Task v r e p k → i ≡ held v k → Steady v w → Has w (suc p) i
-has_number v w r e p k i t z s = subst (Has w (suc p)) (held_still s.still k t.below ∙ sym z) (has_steady s t.below t.has)
+pub has_number : (v w : Store) (le : Leap) (p k i : ℕ) → Task v le p k → i ≡ held v k → Steady v w → Has w (suc p) i
+has_number v w le p k i t z s = subst (Has w (suc p)) (held_still s.still k t.below ∙ sym z) (has_steady s t.below t.has)
 
 -- ---- a square that isn't held
-pub number_task : (v w : Store) (r : Rule) (e p i k : ℕ) → Loose v r e p i → Good w → Pushed v w i → k ≡ v.top → Task w r e p k
-number_task v w r e p i k l g h z =
+pub number_task : (v w : Store) (le : Leap) (p i k : ℕ) → Loose v le p i → Good w → Pushed v w i → k ≡ v.top → Task w le p k
+number_task v w le p i k l g h z =
     let n = keeping_new h (is_self v (suc p) i l.has) in let top = h.top in let room = l.room in
     record {
       good = g;
-      rule = l.rule;
       below = omega arith;
       has = subst (λ (k : ℕ). Has w (suc p) (held w k)) (sym z) n.is.valid;
       power = l.power;
@@ -118,72 +118,86 @@ pub part_quarter : (r : Law) (e b i j : ℕ) → 9 ≤ i → j ≡ i - 9 → (q 
 part_quarter r e b i j h z q = ap (λ (j : ℕ). quarter_leap r e b j q) z ∙ sym (cond_false (ltb i 9) _ _ (last_parts i h))
 
 -- one of the nine
-pub piece_loose : (v w : Store) (r : Rule) (e b k i n x : ℕ) → Rooted v r e b k → Good w → Steady v w → Answers (suc (suc b)) (suc b) k (ninth i) v w (Ok n) → x ≡ inner e b → Loose w r x b n
-piece_loose v w r e b k i n x t g s a z =
-    let y = inner_power e b t.power in let top = s.top in let room = t.room in let deep = t.deep in
-    record { good = g; rule = t.rule; has = (a _ (keeping_self v k (suc (suc b)) t.below t.has)).valid; power = omega arith; deep = omega arith; room = omega arith }
+pub inner_fits : (la : Larger) (j : Leap) → la.leap.exponent ≤ la.below + 3 → j ≡ inner_of la → j.exponent ≤ la.below + 2
+inner_fits la j h z = let y = inner_power la.leap.exponent la.below h in let w = ap (λ (l : Leap). l.exponent) z in omega arith
 
-pub piece_leap : (v w u : Store) (r : Rule) (e b k i n x : ℕ) (o : Result ℕ NoRoom) → Steady v w → Answers (suc (suc b)) (suc b) k (ninth i) v w (Ok n) → x ≡ inner e b →
-    Given w u (suc b) b n (leap_of (law r) x b) o → Outcome v u (suc (suc b)) b k (ninth_leap (law r) e b i) o
-piece_leap v w u r e b k i n x o s a z g = record { good = g.good; steady = steady_trans s g.steady; is = go o g.is }
+pub piece_loose : (v w : Store) (la : Larger) (i n : ℕ) (j : Leap) → Rooted v la → Good w → Steady v w → Answers (suc (suc la.below)) (suc la.below) la.place (ninth i) v w (Ok n) → j ≡ inner_of la → Loose w j la.below n
+piece_loose v w la i n j t g s a z =
+    let top = s.top in let room = t.room in let deep = t.deep in
+    record { good = g; has = (a _ (keeping_self v la.place (suc (suc la.below)) t.below t.has)).valid; power = inner_fits la j t.power z; deep = omega arith; room = omega arith }
+
+pub piece_leap : (v w u : Store) (la : Larger) (i n : ℕ) (j : Leap) (o : Result ℕ NoRoom) → i < 9 → Steady v w → Answers (suc (suc la.below)) (suc la.below) la.place (ninth i) v w (Ok n) → j ≡ inner_of la →
+    Given w u (suc la.below) la.below n (leap_to j la.below) o → Outcome v u (suc (suc la.below)) la.below la.place (part la i) o
+piece_leap v w u la i n j o m s a z g =
+    outcome_map (part la i) (part_ninth (law la.leap.rule) la.leap.exponent la.below i m) (record { good = g.good; steady = steady_trans s g.steady; is = go o g.is })
   where
-    go : (o : Result ℕ NoRoom) → Gives (suc b) b n (leap_of (law r) x b) w u o → Answers (suc (suc b)) b k (ninth_leap (law r) e b i) v u o
-    go (Ok l) h = λ q p. subst (λ (x : ℕ). Is u b l (leap_of (law r) x b (ninth i q))) z (h (ninth i q) (a q p))
+    go : (o : Result ℕ NoRoom) → Gives (suc la.below) la.below n (leap_to j la.below) w u o → Answers (suc (suc la.below)) la.below la.place (nine la i) v u o
+    go (Ok l) h = λ q p. subst (λ (j : Leap). Is u la.below l (leap_to j la.below (ninth i q))) z (h (ninth i q) (a q p))
     go (Err y) h = h
 
 -- the four that touch
-pub record Fours (s : Store) (r : Rule) (e b k i : ℕ) (f : Quarters) : Type 0 where
-  pub fnw : (q : Square Bool) → Keeping s k (suc (suc b)) q → Is s b f.nw (ninth_leap (law r) e b (i + i / 2) q)
-  pub fne : (q : Square Bool) → Keeping s k (suc (suc b)) q → Is s b f.ne (ninth_leap (law r) e b (i + i / 2 + 1) q)
-  pub fsw : (q : Square Bool) → Keeping s k (suc (suc b)) q → Is s b f.sw (ninth_leap (law r) e b (i + i / 2 + 3) q)
-  pub fse : (q : Square Bool) → Keeping s k (suc (suc b)) q → Is s b f.se (ninth_leap (law r) e b (i + i / 2 + 4) q)
+pub record Fours (s : Store) (la : Larger) (i : ℕ) (f : Quarters ℕ) : Type 0 where
+  pub fnw : (q : Square Bool) → Keeping s la.place (suc (suc la.below)) q → Is s la.below f.nw (nine la (i + i / 2) q)
+  pub fne : (q : Square Bool) → Keeping s la.place (suc (suc la.below)) q → Is s la.below f.ne (nine la (i + i / 2 + 1) q)
+  pub fsw : (q : Square Bool) → Keeping s la.place (suc (suc la.below)) q → Is s la.below f.sw (nine la (i + i / 2 + 3) q)
+  pub fse : (q : Square Bool) → Keeping s la.place (suc (suc la.below)) q → Is s la.below f.se (nine la (i + i / 2 + 4) q)
 
-at_part : (s : Store) (h : Hold) (r : Rule) (e b k j n : ℕ) → Nined s h r e b k → j < 9 → n ≡ held s (h.from + j) → (q : Square Bool) → Keeping s k (suc (suc b)) q → Is s b n (ninth_leap (law r) e b j q)
-at_part s h r e b k j n t l z q p = subst (λ (n : ℕ). Is s b n (ninth_leap (law r) e b j q)) (sym z) (t.each q p j l).is
+at_part : (s : Store) (h : Hold) (la : Larger) (j n : ℕ) → Nined s h la → j < 9 → n ≡ held s (h.from + j) → (q : Square Bool) → Keeping s la.place (suc (suc la.below)) q → Is s la.below n (nine la j q)
+at_part s h la j n t l z q p = subst (λ (n : ℕ). Is s la.below n (nine la j q)) (sym z) (t.each q p j l).is
 
-pub fours : (s : Store) (h : Hold) (r : Rule) (e b k i : ℕ) (f : Quarters) → Nined s h r e b k → i < 4 → f.nw ≡ held s (h.from + (i + i / 2)) → f.ne ≡ held s (h.from + (i + i / 2 + 1)) →
-    f.sw ≡ held s (h.from + (i + i / 2 + 3)) → f.se ≡ held s (h.from + (i + i / 2 + 4)) → Fours s r e b k i f
-fours s h r e b k i f t l z1 z2 z3 z4 = record {
-  fnw = at_part s h r e b k (i + i / 2) f.nw t (omega arith) z1;
-  fne = at_part s h r e b k (i + i / 2 + 1) f.ne t (omega arith) z2;
-  fsw = at_part s h r e b k (i + i / 2 + 3) f.sw t (omega arith) z3;
-  fse = at_part s h r e b k (i + i / 2 + 4) f.se t (omega arith) z4;
+pub fours : (s : Store) (h : Hold) (la : Larger) (i : ℕ) (f : Quarters ℕ) → Nined s h la → i < 4 → f.nw ≡ held s (h.from + (i + i / 2)) → f.ne ≡ held s (h.from + (i + i / 2 + 1)) →
+    f.sw ≡ held s (h.from + (i + i / 2 + 3)) → f.se ≡ held s (h.from + (i + i / 2 + 4)) → Fours s la i f
+fours s h la i f t l z1 z2 z3 z4 = record {
+  fnw = at_part s h la (i + i / 2) f.nw t (omega arith) z1;
+  fne = at_part s h la (i + i / 2 + 1) f.ne t (omega arith) z2;
+  fsw = at_part s h la (i + i / 2 + 3) f.sw t (omega arith) z3;
+  fse = at_part s h la (i + i / 2 + 4) f.se t (omega arith) z4;
 }
 
-pub four_has : (s : Store) (r : Rule) (e b k i : ℕ) (f : Quarters) → Rooted s r e b k → Fours s r e b k i f → FourOf s b f
-four_has s r e b k i f t h =
-    let p = keeping_self s k (suc (suc b)) t.below t.has in
+pub four_has : (s : Store) (la : Larger) (i : ℕ) (f : Quarters ℕ) → Rooted s la → Fours s la i f → FourOf s la.below f
+four_has s la i f t h =
+    let p = keeping_self s la.place (suc (suc la.below)) t.below t.has in
     record { has_nw = (h.fnw _ p).valid; has_ne = (h.fne _ p).valid; has_sw = (h.fsw _ p).valid; has_se = (h.fse _ p).valid }
 
-pub four_touch : (v w : Store) (r : Rule) (e b k i n : ℕ) (f : Quarters) → Fours v r e b k i f → Interned v w b f (Ok n) → (q : Square Bool) → Keeping v k (suc (suc b)) q → Is w (suc b) n (touching (λ j. ninth_leap (law r) e b j q) i)
-four_touch v w r e b k i n f h a q p = (a _ _ _ _ (h.fnw q p) (h.fne q p) (h.fsw q p) (h.fse q p)).is
+pub four_touch : (v w : Store) (la : Larger) (i n : ℕ) (f : Quarters ℕ) → Fours v la i f → Interned v w la.below f (Ok n) → (q : Square Bool) → Keeping v la.place (suc (suc la.below)) q → Is w (suc la.below) n (touching (λ j. nine la j q) i)
+four_touch v w la i n f h a q p = (a _ _ _ _ (h.fnw q p) (h.fne q p) (h.fsw q p) (h.fse q p)).is
 
-pub four_loose : (v w : Store) (r : Rule) (e b k i n x : ℕ) (f : Quarters) → Rooted v r e b k → Good w → Steady v w → Fours v r e b k i f → Interned v w b f (Ok n) → x ≡ b + 2 → Loose w r x b n
-four_loose v w r e b k i n x f t g s h a z =
+pub four_loose : (v w : Store) (la : Larger) (i n : ℕ) (j : Leap) (f : Quarters ℕ) → Rooted v la → Good w → Steady v w → Fours v la i f → Interned v w la.below f (Ok n) → j ≡ inner_of la → Loose w j la.below n
+four_loose v w la i n j f t g s h a z =
     let top = s.top in let room = t.room in let deep = t.deep in
-    record { good = g; rule = t.rule; has = (four_touch v w r e b k i n f h a _ (keeping_self v k (suc (suc b)) t.below t.has)).valid; power = omega arith; deep = omega arith; room = omega arith }
+    record { good = g; has = (four_touch v w la i n f h a _ (keeping_self v la.place (suc (suc la.below)) t.below t.has)).valid; power = inner_fits la j t.power z; deep = omega arith; room = omega arith }
 
-pub four_leap : (v w u : Store) (r : Rule) (e b k i n x : ℕ) (f : Quarters) (o : Result ℕ NoRoom) → e ≡ b + 3 → x ≡ b + 2 → Steady v w → Fours v r e b k i f → Interned v w b f (Ok n) →
-    Given w u (suc b) b n (leap_of (law r) x b) o → Outcome v u (suc (suc b)) b k (quarter_leap (law r) e b i) o
-four_leap v w u r e b k i n x f o z y s h a g = record { good = g.good; steady = steady_trans s g.steady; is = go o g.is }
+-- the i-th quarter of the whole leap, as a part
+as_part : (v u : Store) (la : Larger) (i : ℕ) (o : Result ℕ NoRoom) → Outcome v u (suc (suc la.below)) la.below la.place (quarter_leap (law la.leap.rule) la.leap.exponent la.below i) o →
+    Outcome v u (suc (suc la.below)) la.below la.place (part la (9 + i)) o
+as_part v u la i o = outcome_map (part la (9 + i)) (part_quarter (law la.leap.rule) la.leap.exponent la.below (9 + i) i (omega arith) (omega arith))
+
+pub four_leap : (v w u : Store) (la : Larger) (i n : ℕ) (j : Leap) (f : Quarters ℕ) (o : Result ℕ NoRoom) → true ≡ eqb la.leap.exponent (la.below + 3) → j ≡ inner_of la → Steady v w → Fours v la i f → Interned v w la.below f (Ok n) →
+    Given w u (suc la.below) la.below n (leap_to j la.below) o → Outcome v u (suc (suc la.below)) la.below la.place (part la (9 + i)) o
+four_leap v w u la i n j f o z y s h a g = as_part v u la i o (record { good = g.good; steady = steady_trans s g.steady; is = go o g.is })
   where
-    go : (o : Result ℕ NoRoom) → Gives (suc b) b n (leap_of (law r) x b) w u o → Answers (suc (suc b)) b k (quarter_leap (law r) e b i) v u o
+    go : (o : Result ℕ NoRoom) → Gives (suc la.below) la.below n (leap_to j la.below) w u o → Answers (suc (suc la.below)) la.below la.place (quarter_leap (law la.leap.rule) la.leap.exponent la.below i) v u o
     go (Ok l) d = λ q p.
-        let t = touching (λ j. ninth_leap (law r) e b j q) i in let xs : x ≡ suc (suc b) = omega arith in
-        subst (Is u b l) ((λ i. leap_of (law r) (xs i) b t) ∙ sym (cond_true (eqb e (b + 3)) _ _ (is_true e (b + 3) z))) (d t (four_touch v w r e b k i n f h a q p))
+        let t = touching (λ j. nine la j q) i in let xs = cond_true (eqb la.leap.exponent (la.below + 3)) (suc (suc la.below)) la.leap.exponent (sym z) in
+        subst (Is u la.below l) ((λ k. leap_to (y k) la.below t) ∙ (λ k. leap_of (law la.leap.rule) (xs k) la.below t) ∙ sym (cond_true (eqb la.leap.exponent (la.below + 3)) _ _ (sym z)))
+        (d t (four_touch v w la i n f h a q p))
     go (Err c) d = d
 
-pub four_middle : (v w : Store) (r : Rule) (e b k i : ℕ) (f : Quarters) (o : Result ℕ NoRoom) → (e ≡ b + 3 → ⊥) → Fours v r e b k i f → IsMiddle v w b f o → Answers (suc (suc b)) b k (quarter_leap (law r) e b i) v w o
-four_middle v w r e b k i f (Ok l) z h a = λ q p. subst (Is w b l) (sym (cond_false (eqb e (b + 3)) _ _ (is_false e (b + 3) z))) (a _ _ _ _ (h.fnw q p) (h.fne q p) (h.fsw q p) (h.fse q p))
-four_middle v w r e b k i f (Err c) z h a = a
+pub four_middle : (v w : Store) (la : Larger) (i : ℕ) (f : Quarters ℕ) (o : Result ℕ NoRoom) → false ≡ eqb la.leap.exponent (la.below + 3) → Fours v la i f → MiddleGiven v w la.below f o →
+    Outcome v w (suc (suc la.below)) la.below la.place (part la (9 + i)) o
+four_middle v w la i f o z h m = as_part v w la i o (record { good = m.good; steady = m.steady; is = go o m.is })
+  where
+    go : (o : Result ℕ NoRoom) → IsMiddle v w la.below f o → Answers (suc (suc la.below)) la.below la.place (quarter_leap (law la.leap.rule) la.leap.exponent la.below i) v w o
+    go (Ok l) a = λ q p. subst (Is w la.below l) (sym (cond_false (eqb la.leap.exponent (la.below + 3)) _ _ (sym z))) (a _ _ _ _ (h.fnw q p) (h.fne q p) (h.fsw q p) (h.fse q p))
+    go (Err c) a = a
 
 -- ---- words
-pub quarters_self : (v : Store) (p k i : ℕ) (f : Quarters) → Has v (suc p) (held v k) → i ≡ held v k → ((d : ℕ) (q : Square Bool) → Is v (suc d) i q → QuartersOf v d q f) →
+pub quarters_self : (v : Store) (p k i : ℕ) (f : Quarters ℕ) → Has v (suc p) (held v k) → i ≡ held v k → ((d : ℕ) (q : Square Bool) → Is v (suc d) i q → QuartersOf v d q f) →
     QuartersOf v p (square_of (table v) (suc p) i) f
 quarters_self v p k i f h z c = c p _ (is_self v (suc p) i (subst (Has v (suc p)) (sym z) h))
 
 -- a square of side 16 is that of its words
-pub words_square : (v : Store) (k i : ℕ) (f : Quarters) (a b c d : ℕ) (q : Square Bool) → Keeping v k 1 q → i ≡ held v k → ((d : ℕ) (q : Square Bool) → Is v (suc d) i q → QuartersOf v d q f) →
+pub words_square : (v : Store) (k i : ℕ) (f : Quarters ℕ) (a b c d : ℕ) (q : Square Bool) → Keeping v k 1 q → i ≡ held v k → ((d : ℕ) (q : Square Bool) → Is v (suc d) i q → QuartersOf v d q f) →
     ((q : Square Bool) → Is v 0 f.nw q → q ≡ word_square a) → ((q : Square Bool) → Is v 0 f.ne q → q ≡ word_square b) →
     ((q : Square Bool) → Is v 0 f.sw q → q ≡ word_square c) → ((q : Square Bool) → Is v 0 f.se q → q ≡ word_square d) → q ≡ four_words a b c d
 words_square v k i f a b c d q p z h ha hb hc hd =

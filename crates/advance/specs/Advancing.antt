@@ -1,10 +1,9 @@
 -- Leaps from their parts, and what the functions that work them out are given and give.
-use Rattle.std.specs.Prelude.{ℕ, suc, ◌+◌, ◌-◌, ◌*◌, ◌/◌, ◌<◌, ◌≤◌, Bool, cond, T, ◌==◌, nat_lt}
-use Rattle.model.specs.Rules.{Rule as Law, good_rule}
+use Rattle.std.specs.Prelude.{ℕ, suc, ◌+◌, ◌-◌, ◌*◌, ◌/◌, ◌<◌, ◌≤◌, Bool, cond, ◌==◌, nat_lt}
+use Rattle.model.specs.Rules.{Rule as Law}
 use Rattle.model.specs.Squares.{Square, Four, middle}
-use Rattle.rules.specs.declared.Rule.{Rule}
-use Rattle.rules.specs.Laws.{law}
 use Rattle.nodes.specs.Memory.{hold_room, leap_of}
+use Rattle.notes.specs.declared.Leap.{Leap}
 use Rattle.slots.specs.declared.Store.{Store}
 use Rattle.slots.specs.Stores.{Good, Has}
 use Rattle.holds.specs.Holding.{held}
@@ -36,11 +35,10 @@ abbrev pub part_of : Law → (e b i : ℕ) → Square Bool → Square Bool
 part_of r e b i q = cond (nat_lt i 9) (ninth_leap r e b i q) (quarter_leap r e b (i - 9) q)
 
 -- what a leap to depth p of the square that hold k keeps is given
-pub record Task (s : Store) (r : Rule) (e p k : ℕ) : Type 0 where
+pub record Task (s : Store) (l : Leap) (p k : ℕ) : Type 0 where
   pub good : Good s
-  pub rule : T (good_rule (law r))
   pub below : k < s.top
   pub has : Has s (suc p) (held s k)
-  pub power : e ≤ p + 2
+  pub power : l.exponent ≤ p + 2
   pub deep : p ≤ 60
   pub room : s.top + 14 * p ≤ hold_room

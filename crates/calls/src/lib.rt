@@ -8,7 +8,7 @@ ghost use Rattle.model.specs.Cells.{in_order, lives, bounds_of};
 ghost use Rattle.model.specs.World.{World, world_of, roomy, capped, bits};
 ghost use Rattle.model.specs.Answers.{accepted, Ruled, Put, Ran, Recurs};
 
-use model::{Bounds, Period, Refusal};
+use model::{Bounds, Cell, Period, Refusal};
 
 // A plane with its rule in lent memory, which every call is given anew. `world` is the rule and the living cells, read out
 // of the memory; `good` says that the memory holds them.
@@ -36,10 +36,10 @@ pub trait Field {
         ensures ruled { Ruled born stays (world self.old mem.old) result (world self.new mem.new) };
 
     // Lets a cell live, or not.
-    fn put(&mut self, mem: &mut [u64], x: i64, y: i64, lives: bool) -> Result<(), Refusal>
+    fn put(&mut self, mem: &mut [u64], at: Cell, lives: bool) -> Result<(), Refusal>
         requires { good self.old mem.old }
         ensures good { good self.new mem.new }
-        ensures put { Put x y lives (world self.old mem.old) result (world self.new mem.new) };
+        ensures put { Put at.x at.y lives (world self.old mem.old) result (world self.new mem.new) };
 
     // So many generations.
     fn run(&mut self, mem: &mut [u64], n: u64) -> Result<(), Refusal>
@@ -48,19 +48,19 @@ pub trait Field {
         ensures ran { Ran n (world self.old mem.old) result (world self.new mem.new) };
 
     // Whether a cell lives.
-    fn cell(&self, mem: &[u64], x: i64, y: i64) -> bool
+    fn cell(&self, mem: &[u64], at: Cell) -> bool
         requires { good self.now mem.now }
-        ensures { result ≡ lives x y (world self.now mem.now).cells };
+        ensures { result ≡ lives at.x at.y (world self.now mem.now).cells };
 
     // How many cells live.
     fn count(&self, mem: &[u64]) -> u64
         requires { good self.now mem.now }
         ensures { result ≡ capped (length (world self.now mem.now).cells) };
 
-    // The cells of a row from x, y to the right, as 0 and 1, as many as there is place for.
-    fn row(&self, mem: &[u64], x: i64, y: i64, out: &mut [u8])
+    // The cells of a row from this one to the right, as 0 and 1, as many as there is place for.
+    fn row(&self, mem: &[u64], from: Cell, out: &mut [u8])
         requires { good self.now mem.now }
-        ensures { out.new ≡ bits x y (length out.old) (world self.now mem.now).cells };
+        ensures { out.new ≡ bits from.x from.y (length out.old) (world self.now mem.now).cells };
 
     // The box around the living cells. The memory may be written to, so that what is found can be noted there.
     fn bounds(&mut self, mem: &mut [u64]) -> Option<Bounds>

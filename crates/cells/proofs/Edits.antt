@@ -2,29 +2,16 @@
 use Rattle.std.proofs.Common.{◌≡◌, ℕ, ◌+◌, ◌-◌, ◌<◌, ◌≤◌, Bool, true, false, cond, not, T, ◌≢◌, ◌⊎◌, List, length, ℤ, sym, ap, ◌∙◌, subst, inl, inr, arith}
 use native.Mathlib.Decide.{dec_lt}
 use borrow.Author.Differences.{ints}
-use Rattle.model.specs.Cells.{Cell, cell_at, before, same_cell, in_order, lives, put}
+use Rattle.model.specs.declared.Cell.{Cell}
+use Rattle.model.specs.Cells.{cell_at, before, same_cell, in_order, lives, put}
 use Rattle.model.proofs.Order.{bool_same, before_irrefl, lists_same, same_cell_in, same_cell_out, if_so}
 use Rattle.model.proofs.Put.{put_order, put_lives}
 use Rattle.lent.specs.declared.Stretch.{Stretch}
-use Rattle.lent.specs.Stretches.{to_z, tab, entry, row_at, col_at, cells_in, with_entry, room_words, room_cells, Listed, Beside}
+use Rattle.lent.specs.Stretches.{to_z, tab, entry, row_at, col_at, cells_in, with_entry, room_cells, Listed, Copied}
 use Rattle.lent.proofs.Tab.{tab_out, tab_in, tab_order, order_tab}
-use Rattle.lent.proofs.Writing.{written_beside, written_here, written_entry, beside_trans}
+use Rattle.lent.proofs.Writing.{written_here, written_entry}
 use Rattle.cells.proofs.Finds.{place_holds}
-use Rattle.cells.specs.Places.{Earlier, Later, Place, Holds, Raised, Lowered, cell_of_words, longer, shorter}
-
-pub record Copied (at from to : ℕ) (m m' : List ℕ) : Type 0 where
-  pub beside : Beside at m m'
-  pub here : entry m' at to ≡ entry m at from
-  pub others : (k : ℕ) → k ≢ to → entry m' at k ≡ entry m at k
-
-pub copied : (at from to : ℕ) (m m' : List ℕ) → at + room_words ≤ length m → to < room_cells → m' ≡ with_entry m at to (row_at m at from) (col_at m at from) → Copied at from to m m'
-copied at from to m m' room t e =
-    subst (λ (u : List ℕ). Copied at from to m u) (sym e)
-    (record {
-      beside = written_beside m at to (row_at m at from) (col_at m at from) t;
-      here = written_here m at to (row_at m at from) (col_at m at from) (omega arith);
-      others = written_entry m at to (row_at m at from) (col_at m at from);
-    })
+use Rattle.cells.specs.Places.{Earlier, Later, Place, Holds, longer, shorter}
 
 not_both : (z : Bool) → T z → T (not z) → ⊥
 not_both true s t = t
@@ -152,10 +139,10 @@ words_before : (a b c d : ℕ) → (a < c) ⊎ ((a ≡ c) × (b < d)) → T (bef
 words_before a b c d (inl p) = grind (arith, ints)
 words_before a b c d (inr (p, q)) = grind (arith, ints)
 
-earlier_before : (m : List ℕ) (s : Stretch) (k row col : ℕ) → Earlier m s k row col → T (before (entry m s.at k) (cell_of_words row col))
+earlier_before : (m : List ℕ) (s : Stretch) (k row col : ℕ) → Earlier m s k row col → T (before (entry m s.at k) (cell_at (to_z col) (to_z row)))
 earlier_before m s k row col e = words_before (row_at m s.at k) (col_at m s.at k) row col e
 
-later_before : (m : List ℕ) (s : Stretch) (k row col : ℕ) → Later m s k row col → ((row_at m s.at k ≡ row) → (col_at m s.at k ≡ col) → ⊥) → T (before (cell_of_words row col) (entry m s.at k))
+later_before : (m : List ℕ) (s : Stretch) (k row col : ℕ) → Later m s k row col → ((row_at m s.at k ≡ row) → (col_at m s.at k ≡ col) → ⊥) → T (before (cell_at (to_z col) (to_z row)) (entry m s.at k))
 later_before m s k row col (inl p) n = words_before row col (row_at m s.at k) (col_at m s.at k) (inl p)
 later_before m s k row col (inr (p, q)) n = words_before row col (row_at m s.at k) (col_at m s.at k) (inr (sym p, strict (dec_lt col (col_at m s.at k))))
   where
@@ -164,38 +151,21 @@ later_before m s k row col (inr (p, q)) n = words_before row col (row_at m s.at 
     strict (no l) = absurd (n p (omega arith))
 
 pub inserted : (m m1 m2 : List ℕ) (s : Stretch) (row col i : ℕ) → Listed m s → s.len < room_cells → Place m s row col i → (Holds m s i row col → ⊥) →
-    Beside s.at m m1 → Raised s.at i s.len m m1 → m2 ≡ with_entry m1 s.at i row col → Beside s.at m m2 × (cells_in m2 (longer s) ≡ put (cell_of_words row col) true (cells_in m s))
-inserted m m1 m2 s row col i h few p absent b r e =
-    let hi = p.high in let w = h.within in let long = b.long in
-    let here : entry m2 s.at i ≡ cell_of_words row col = ap (λ (u : List ℕ). entry u s.at i) e ∙ written_here m1 s.at i row col (omega arith) in
-    let other : (k : ℕ) → k ≢ i → entry m2 s.at k ≡ entry m1 s.at k = λ k n. ap (λ (u : List ℕ). entry u s.at k) e ∙ written_entry m1 s.at i row col k n in (
-      beside_trans b (subst (λ (u : List ℕ). Beside s.at m1 u) (sym e) (written_beside m1 s.at i row col (omega arith))),
-      insert_put (entry m s.at) (entry m2 s.at) s.len i (cell_of_words row col) h.ordered hi
-          (λ k l. other k (λ z. omega arith) ∙ r.low k l) here (λ k l u. other (k + 1) (λ z. omega arith) ∙ r.high k l u)
-          (λ k l. earlier_before m s k row col (p.early k l))
-          (λ k l u. later_before m s k row col (p.late k l u) (λ er ec. absent (subst (λ (z : ℕ). Holds m s z row col) (sym (place_holds m s row col i k h p u er ec)) (u, er, ec)))),
-    )
+    length m1 ≡ length m → Copied s.at i (i + 1) (s.len - i) m m1 → m2 ≡ with_entry m1 s.at i row col → cells_in m2 (longer s) ≡ put (cell_at (to_z col) (to_z row)) true (cells_in m s)
+inserted m m1 m2 s row col i h few p absent long d e =
+    let hi = p.high in let w = h.within in
+    let here : entry m2 s.at i ≡ cell_at (to_z col) (to_z row) = ap (λ (u : List ℕ). entry u s.at i) e ∙ written_here m1 s.at i row col (omega arith) in
+    let other : (k : ℕ) → k ≢ i → entry m2 s.at k ≡ entry m1 s.at k = λ k n. ap (λ (u : List ℕ). entry u s.at k) e ∙ written_entry m1 s.at i row col k n in
+    let raised : (k : ℕ) → i ≤ k → k < s.len → entry m1 s.at (k + 1) ≡ entry m s.at k =
+    λ k l u. let a : k + 1 ≡ i + 1 + (k - i) = omega arith in let b : i + (k - i) ≡ k = omega arith in ap (entry m1 s.at) a ∙ d.moved (k - i) (omega arith) ∙ ap (entry m s.at) b in
+    insert_put (entry m s.at) (entry m2 s.at) s.len i (cell_at (to_z col) (to_z row)) h.ordered hi
+    (λ k l. other k (λ z. omega arith) ∙ d.others k (inl (omega arith))) here (λ k l u. other (k + 1) (λ z. omega arith) ∙ raised k l u)
+    (λ k l. earlier_before m s k row col (p.early k l))
+    (λ k l u. later_before m s k row col (p.late k l u) (λ er ec. absent (subst (λ (z : ℕ). Holds m s z row col) (sym (place_holds m s row col i k h p u er ec)) (u, er, ec))))
 
-pub removed : (m m' : List ℕ) (s : Stretch) (i : ℕ) → Listed m s → i < s.len → Lowered s.at i s.len m m' → cells_in m' (shorter s) ≡ put (entry m s.at i) false (cells_in m s)
-removed m m' s i h l r = remove_put (entry m s.at) (entry m' s.at) s.len i h.ordered l r.low r.high
-
--- one turn of the loops that move cells
-pub raise_step : (at k n : ℕ) (m0 m m' : List ℕ) → Copied at (k - 1) k m m' → 0 < k → ((j : ℕ) → j < k → entry m at j ≡ entry m0 at j) → ((j : ℕ) → k ≤ j → j < n → entry m at (j + 1) ≡ entry m0 at j) →
-    (j : ℕ) → k - 1 ≤ j → j < n → entry m' at (j + 1) ≡ entry m0 at j
-raise_step at k n m0 m m' d p low high j l u = go (dec_lt j k)
-  where
-    go : Dec (j < k) → entry m' at (j + 1) ≡ entry m0 at j
-    go (yes q) = let a : j + 1 ≡ k = omega arith in let b : k - 1 ≡ j = omega arith in ap (entry m' at) a ∙ d.here ∙ ap (entry m at) b ∙ low j q
-    go (no q) = d.others (j + 1) (λ z. omega arith) ∙ high j (omega arith) u
-
-pub lower_step : (at i k : ℕ) (m0 m m' : List ℕ) → Copied at k (k - 1) m m' → i + 1 ≤ k → ((j : ℕ) → (j < i) ⊎ (k ≤ j) → entry m at j ≡ entry m0 at j) → ((j : ℕ) → i ≤ j → j + 1 < k → entry m at j ≡ entry m0 at (j + 1)) →
-    ((j : ℕ) → (j < i) ⊎ (k + 1 ≤ j) → entry m' at j ≡ entry m0 at j) × ((j : ℕ) → i ≤ j → j + 1 < k + 1 → entry m' at j ≡ entry m0 at (j + 1))
-lower_step at i k m0 m m' d p same high = ((λ j o. other j o), (λ j l u. go j l u (dec_lt (j + 1) k)))
-  where
-    other : (j : ℕ) → (j < i) ⊎ (k + 1 ≤ j) → entry m' at j ≡ entry m0 at j
-    other j (inl q) = d.others j (λ z. omega arith) ∙ same j (inl q)
-    other j (inr q) = d.others j (λ z. omega arith) ∙ same j (inr (omega arith))
-
-    go : (j : ℕ) → i ≤ j → j + 1 < k + 1 → Dec (j + 1 < k) → entry m' at j ≡ entry m0 at (j + 1)
-    go j l u (yes q) = d.others j (λ z. omega arith) ∙ high j l q
-    go j l u (no q) = let a : j ≡ k - 1 = omega arith in let b : k ≡ j + 1 = omega arith in ap (entry m' at) a ∙ d.here ∙ ap (entry m at) b ∙ same (j + 1) (inr (omega arith))
+pub removed : (m m' : List ℕ) (s : Stretch) (i : ℕ) → Listed m s → i < s.len → Copied s.at (i + 1) i (s.len - i - 1) m m' → cells_in m' (shorter s) ≡ put (entry m s.at i) false (cells_in m s)
+removed m m' s i h l d =
+    remove_put (entry m s.at) (entry m' s.at) s.len i h.ordered l (λ k b. d.others k (inl b))
+    (λ k b u.
+    let x : k ≡ i + (k - i) = omega arith in let y : i + 1 + (k - i) ≡ k + 1 = omega arith in
+    ap (entry m' s.at) x ∙ d.moved (k - i) (omega arith) ∙ ap (entry m s.at) y)

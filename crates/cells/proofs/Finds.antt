@@ -1,14 +1,17 @@
 -- To find a cell by halving.
-use Rattle.std.proofs.Common.{◌≡◌, ℕ, ◌+◌, ◌-◌, ◌/◌, ◌<◌, ◌≤◌, Bool, true, false, T, ◌⊎◌, List, ℤ, MatchBool, sym, ap, ◌∙◌, subst, inl, inr, arith}
+use Rattle.std.proofs.Common.{◌≡◌, ℕ, ◌<◌, ◌≤◌, Bool, true, false, ◌&&◌, ◌||◌, ltb, T, ◌⊎◌, List, [], ◌∷◌, length, get_or, ℤ, MatchBool, sym, ap, ◌∙◌, subst, inl, inr, arith}
 use native.Mathlib.Decide.{dec_lt}
+use lib.Dec.{eqb}
+use Rattle.std.specs.List.Sorted.{IsPartitionedBy, IsPartitionPoint}
 use Rattle.model.specs.Cells.{lives}
 use Rattle.model.specs.World.{far, size, edge}
 use Rattle.model.proofs.Order.{bool_same}
 use Rattle.model.proofs.Reach.{far_out}
 use Rattle.lent.specs.declared.Stretch.{Stretch}
 use Rattle.lent.specs.Stretches.{to_z, row_at, col_at, cells_in, Listed}
+use Rattle.lent.specs.Entries.{Pairs}
 use Rattle.lent.proofs.Listing.{to_z_inj, listed_order, listed_lives, listed_find}
-use Rattle.cells.specs.Places.{Earlier, Later, Place, Holds}
+use Rattle.cells.specs.Places.{Earlier, Place, Holds}
 
 pub earlier_down : (m : List ℕ) (s : Stretch) → Listed m s → (row col j k : ℕ) → j ≤ k → k < s.len → Earlier m s k row col → Earlier m s j row col
 earlier_down m s h row col j k a b e = go (dec_lt j k) e
@@ -18,16 +21,37 @@ earlier_down m s h row col j k a b e = go (dec_lt j k) e
     go (yes l) (inr (p, q)) = elim (listed_order m s h j k l b) [ inl o ↦ inl (omega arith) | inr o ↦ let o0 = o.0 in let o1 = o.1 in inr (omega arith, omega arith) ]
     go (no l) e = let z : k ≡ j = omega arith in subst (λ (i : ℕ). Earlier m s i row col) z e
 
-pub later_up : (m : List ℕ) (s : Stretch) → Listed m s → (row col j k : ℕ) → j ≤ k → k < s.len → Later m s j row col → Later m s k row col
-later_up m s h row col j k a b e = go (dec_lt j k) e
-  where
-    go : Dec (j < k) → Later m s j row col → Later m s k row col
-    go (yes l) (inl p) = elim (listed_order m s h j k l b) [ inl o ↦ inl (omega arith) | inr o ↦ let o0 = o.0 in inl (omega arith) ]
-    go (yes l) (inr (p, q)) = elim (listed_order m s h j k l b) [ inl o ↦ inl (omega arith) | inr o ↦ let o0 = o.0 in let o1 = o.1 in inr (omega arith, omega arith) ]
-    go (no l) e = let z : j ≡ k = omega arith in subst (λ (i : ℕ). Later m s i row col) z e
+-- whether the cell of these two words comes before the one of that row and column
+abbrev pub precedes : ℕ → ℕ → List ℕ → Bool
+precedes row col w = ltb (get_or w 0 0) row || (eqb (get_or w 0 0) row && ltb (get_or w 1 0) col)
 
-pub halved : (low high : ℕ) → low < high → ((low + (high - low) / 2) + 1 ≤ high) × (low ≤ low + (high - low) / 2)
-halved low high h = (omega arith, omega arith)
+precedes_out : (a b row col : ℕ) → precedes row col (a ∷ b ∷ []) ≡ true → (a < row) ⊎ ((a ≡ row) × (b < col))
+precedes_out a b row col e = grind arith
+
+precedes_in : (a b row col : ℕ) → (a < row) ⊎ ((a ≡ row) × (b < col)) → precedes row col (a ∷ b ∷ []) ≡ true
+precedes_in a b row col e = grind arith
+
+follows_out : (a b row col : ℕ) → precedes row col (a ∷ b ∷ []) ≡ false → (row < a) ⊎ ((a ≡ row) × (col ≤ b))
+follows_out a b row col e = grind arith
+
+module _ (m : List ℕ) (s : Stretch) (row col : ℕ) (pairs : List (List ℕ)) (h : Listed m s) (p : Pairs m s pairs) where
+  at_pair : (b : Bool) (k : ℕ) (d : List ℕ) → k < s.len → precedes row col (get_or pairs k d) ≡ b → precedes row col (row_at m s.at k ∷ col_at m s.at k ∷ []) ≡ b
+  at_pair b k d l e = ap (precedes row col) (sym (p.each k d l)) ∙ e
+
+  pub pairs_part : IsPartitionedBy (precedes row col) pairs
+  pairs_part i j d l b e =
+      let n = p.all in
+      let earlier = earlier_down m s h row col i j l (omega arith) (precedes_out _ _ row col (at_pair true j d (omega arith) e)) in
+      ap (precedes row col) (p.each i d (omega arith)) ∙ precedes_in _ _ row col earlier
+
+  pub found_place : (i : ℕ) → i ≤ length pairs → IsPartitionPoint (λ w. precedes row col w ≡ true) (λ w. precedes row col w ≡ false) pairs i → Place m s row col i
+  found_place i b q =
+      let n = p.all in
+      record {
+        high = omega arith;
+        early = λ k l. precedes_out _ _ row col (at_pair true k [] (omega arith) (q.0 k [] (omega arith) l));
+        late = λ k l u. follows_out _ _ row col (at_pair false k [] u (q.1 k [] l (omega arith)));
+      }
 
 far_size : (x y : ℤ) → T (far x y) → (edge < size x) ⊎ (edge < size y)
 far_size x y t = grind arith

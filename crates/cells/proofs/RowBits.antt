@@ -1,8 +1,10 @@
 -- A row as bytes, place by place.
-use Rattle.std.proofs.Common.{◌≡◌, ℕ, zero, suc, ◌-◌, ◌^◌, ◌<◌, cond, T, List, length, get_or, ℤ, pos, ◌+ℤ◌, ◌<ℤ◌, sym, refl, ap, ◌∙◌, arith, ext_get_or}
+use Rattle.std.proofs.Common.{◌≡◌, ℕ, zero, suc, ◌^◌, ◌<◌, cond, T, List, length, get_or, ℤ, pos, negsuc, ◌+ℤ◌, FitsSigned, w64, sym, refl, ap, ◌∙◌, arith, ext_get_or}
+use native.Mathlib.Decide.{dec_lt}
 use borrow.Author.Differences.{ints}
 use Rattle.model.specs.Planes.{ahead}
-use Rattle.model.specs.Cells.{Cell, lives}
+use Rattle.model.specs.declared.Cell.{Cell}
+use Rattle.model.specs.Cells.{lives}
 use Rattle.model.specs.World.{far, bits}
 
 bits_length : (x y : ℤ) (n : ℕ) (cs : List Cell) → length (bits x y n cs) ≡ n
@@ -20,8 +22,15 @@ pub bits_are : (x y : ℤ) (cs : List Cell) (out : List ℕ) (n : ℕ) → lengt
 bits_are x y cs out n e h =
     ext_get_or 0 out (bits x y n cs) (e ∙ sym (bits_length x y n cs)) (λ k l. let b : k < n = omega arith in h k b ∙ sym (bits_at x y n cs k b))
 
-pub far_right : (x y : ℤ) (i : ℕ) → pos (2 ^ 63 - 1) <ℤ (x +ℤ pos i) → T (far (x +ℤ pos i) y)
-far_right x y i h = far_of (x +ℤ pos i) y h
+-- what no word can hold is beyond the edge
+pub far_unfit : (z y : ℤ) → (FitsSigned w64 z → ⊥) → T (far z y)
+far_unfit (pos n) y h = go (dec_lt n (2 ^ 63))
   where
-    far_of : (z y : ℤ) → pos (2 ^ 63 - 1) <ℤ z → T (far z y)
-    far_of z y h = grind (arith, ints)
+    go : Dec (n < 2 ^ 63) → T (far (pos n) y)
+    go (yes l) = absurd (h (record { sfits = l }))
+    go (no l) = grind arith
+far_unfit (negsuc n) y h = go (dec_lt n (2 ^ 63))
+  where
+    go : Dec (n < 2 ^ 63) → T (far (negsuc n) y)
+    go (yes l) = absurd (h (record { sfits = l }))
+    go (no l) = grind arith

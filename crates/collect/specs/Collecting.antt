@@ -1,7 +1,7 @@
 -- A collection on its way.
 use Rattle.std.specs.Prelude.{◌≡◌, Bool, List, ℕ, suc, ◌<◌, ◌≤◌}
 use Rattle.model.specs.Squares.{Square, living}
-use Rattle.nodes.specs.declared.Quarters.{Quarters}
+use Rattle.model.specs.declared.quarters.Quarters.{Quarters}
 use Rattle.nodes.specs.Nodes.{Valid, Sound, square_of, used, limit}
 use Rattle.nodes.specs.Memory.{word, view, Marked, count_in, held_in, NoteRight, LaidAt}
 use Rattle.nodes.specs.Marking.{ClosedAt}
@@ -26,23 +26,17 @@ pub record Spared (v w : Store) : Type 0 where
   pub spared : (d i : ℕ) (q : Square Bool) → Is v d i q → Marked v.at (mem v) i → Is w d i q
 
 -- four squares of depth d
-pub record FourOf (s : Store) (d : ℕ) (q : Quarters) : Type 0 where
+pub record FourOf (s : Store) (d : ℕ) (q : Quarters ℕ) : Type 0 where
   pub has_nw : Has s d q.nw
   pub has_ne : Has s d q.ne
   pub has_sw : Has s d q.sw
   pub has_se : Has s d q.se
 
-pub record FourMarked (a : ℕ) (m : List ℕ) (q : Quarters) : Type 0 where
-  pub mark_nw : Marked a m q.nw
-  pub mark_ne : Marked a m q.ne
-  pub mark_sw : Marked a m q.sw
-  pub mark_se : Marked a m q.se
-
 -- the number stands for what it stood for
 abbrev pub Means : Store → Store → (d i : ℕ) → Type 0
 Means v w d i = (q : Square Bool) → Is v d i q → Is w d i q
 
-pub record FourKept (v w : Store) (d : ℕ) (q : Quarters) : Type 0 where
+pub record FourKept (v w : Store) (d : ℕ) (q : Quarters ℕ) : Type 0 where
   pub means_nw : Means v w d q.nw
   pub means_ne : Means v w d q.ne
   pub means_sw : Means v w d q.sw

@@ -2,13 +2,11 @@
 #![tactic(auto)]
 
 ghost use Rattle.std.specs.Prelude.{◌≡◌};
-ghost use Rattle.nodes.specs.Nodes.{Sound};
-ghost use Rattle.nodes.specs.Marking.{MarksAt};
-ghost use Rattle.slots.specs.Stores.{mem, Same, Fixed, Laid, Closed, Good, Still, table};
-ghost use Rattle.collect.specs.Collecting.{Marking, Spared, FourOf, FourKept, FourMarked};
+ghost use Rattle.slots.specs.Stores.{Same, Good, Still};
+ghost use Rattle.collect.specs.Collecting.{Marking, Spared, FourOf, FourKept};
 
-use mark::{mark, mark_held};
-use nodes::Quarters;
+use mark::{mark_each, mark_held};
+use model::Quarters;
 use slots::Store;
 use sweep::sweep;
 
@@ -24,7 +22,7 @@ pub fn collect(store: &mut Store)
 }
 
 // Forgets what isn't held, but for these four squares, with which work is in hand.
-pub fn collect_but(store: &mut Store, depth: usize, quarters: Quarters)
+pub fn collect_but(store: &mut Store, depth: usize, quarters: Quarters<usize>)
     requires good { Good store.old }
     requires has { FourOf store.old depth quarters }
     ensures same { Same store.old store.new }
@@ -33,24 +31,8 @@ pub fn collect_but(store: &mut Store, depth: usize, quarters: Quarters)
     ensures top { store.new.top ≡ store.old.top }
     ensures kept { FourKept store.old store.new depth quarters }
 {
-    mark_four(store, depth, quarters);
+    mark_each(store, depth, &quarters.each());
     forget(store);
-}
-
-fn mark_four(store: &mut Store, depth: usize, quarters: Quarters)
-    requires laid { Laid store.old }
-    requires sound { (Sound store.old.slots (table store.old)) × (Closed store.old) }
-    requires has { FourOf store.old depth quarters }
-    ensures same { Same store.old store.new }
-    ensures fixed { Fixed store.old store.new }
-    ensures closed { Closed store.new }
-    ensures marks { MarksAt store.old.at (mem store.old) (mem store.new) }
-    ensures done { FourMarked store.old.at (mem store.new) quarters }
-{
-    mark(store, depth, quarters.nw);
-    mark(store, depth, quarters.ne);
-    mark(store, depth, quarters.sw);
-    mark(store, depth, quarters.se);
 }
 
 // Forgets what is neither marked nor held.

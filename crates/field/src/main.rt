@@ -1,7 +1,8 @@
 // Reads commands from standard input, a line each, and prints the answer to each.
 #![tactic(auto)]
 
-ghost use Rattle.std.specs.Prelude.{◌<◌, length};
+ghost use Rattle.std.specs.Prelude.{◌+◌};
+ghost use Rattle.answers.specs.Appends.{HasRoom};
 ghost use Rattle.commands.specs.Says.{answer_bytes};
 
 use calls::Field;
@@ -14,25 +15,21 @@ use std::io::{BufRead, BufReader, Write};
 const WORDS: usize = 1 << 18;
 
 // Answers line by line, up to the end of the input. Each answer is written at once: a person may be typing.
-fn converse<F: Field>(
-    rt: &HostRuntime,
-    field: &mut F,
-    mem: &mut [u64],
-    out: &mut [u8],
-) -> io::Result<()>
-    requires good { F.Field.good field.old mem.old }
-    requires room { answer_bytes < length out.old }
+fn converse<F: Field>(rt: &HostRuntime, field: &mut F, mem: &mut [u64]) -> io::Result<()>
+    requires { F.good field.old mem.old }
 {
     let mut input = BufReader::new(rt.alloc(), rt.stdin())?;
     let mut line = Vec::new(rt.alloc());
+    let mut out = Vec::with_capacity(rt.alloc(), ANSWER_BYTES + 1)?;
     for _ in 0..u64::MAX {
         line.clear();
         if input.read_until(b'\n', &mut line)? == 0 {
             break;
         }
-        let end = answer(field, mem, bare(line.as_slice()), &mut out[0..ANSWER_BYTES]);
-        out[end] = b'\n';
-        rt.stdout().write_all(&out[0..end + 1])?;
+        out.clear();
+        answer(field, mem, bare(&line), &mut out);
+        out.push(b'\n')?;
+        rt.stdout().write_all(&out)?;
     }
     Ok(())
 }
@@ -40,8 +37,7 @@ fn converse<F: Field>(
 fn main(rt: HostRuntime) -> io::Result<()> {
     let heap = rt.alloc();
     let mut words = vec![in heap; 0u64; WORDS]?;
-    let mut out = vec![in heap; 0u8; ANSWER_BYTES + 1]?;
     let mem = words.as_mut_slice();
     let mut field = ListPlane::open(mem);
-    converse(&rt, &mut field, mem, out.as_mut_slice())
+    converse(&rt, &mut field, mem)
 }

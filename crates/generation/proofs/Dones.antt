@@ -4,7 +4,8 @@ use borrow.Author.Differences.{ints}
 use lib.Signed.{le_z}
 use Rattle.model.specs.Planes.{Plane, ahead, step}
 use Rattle.model.specs.Rules.{Rule, good_rule, life}
-use Rattle.model.specs.Cells.{Cell, cell_at, before, in_order, lives, plane_of}
+use Rattle.model.specs.declared.Cell.{Cell}
+use Rattle.model.specs.Cells.{cell_at, before, in_order, lives, plane_of}
 use Rattle.model.specs.Lists.{next_of}
 use Rattle.model.proofs.Order.{bool_same, decided, and_l, and_r, and_in, before_trans, before_irrefl, before_tri, lives_out, lives_head, lives_tail, lives_none, order_tail, order_after, lists_same}
 use Rattle.model.proofs.Lists.{lives-++, lives-++l, lives-++r, order-++, next_order, next_lives}

@@ -3,3 +3,4 @@ pub mod Windows
 pub mod Dones
 pub mod Steps
 pub mod RowLaws
+pub mod Handed

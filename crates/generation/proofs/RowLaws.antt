@@ -3,7 +3,8 @@ use Rattle.std.proofs.Common.{◌≡◌, ℕ, ◌+◌, ◌-◌, ◌*◌, ◌^◌
 use native.Mathlib.Decide.{dec_lt}
 use borrow.Author.Differences.{ints}
 use Rattle.model.specs.Rules.{Rule, good_rule}
-use Rattle.model.specs.Cells.{Cell, cell_at, before, in_order, lives}
+use Rattle.model.specs.declared.Cell.{Cell}
+use Rattle.model.specs.Cells.{cell_at, before, in_order, lives}
 use Rattle.model.specs.Lists.{next_of}
 use Rattle.model.specs.World.{most_cells}
 use Rattle.model.proofs.Order.{bool_same, and_l, and_r}

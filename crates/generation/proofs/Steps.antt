@@ -4,7 +4,8 @@ use native.Mathlib.Decide.{dec_lt}
 use borrow.Author.Differences.{ints}
 use Rattle.model.specs.Planes.{Plane, back, ahead, step}
 use Rattle.model.specs.Rules.{Rule, good_rule, life}
-use Rattle.model.specs.Cells.{Cell, cell_at, before, plane_of}
+use Rattle.model.specs.declared.Cell.{Cell}
+use Rattle.model.specs.Cells.{cell_at, before, plane_of}
 use Rattle.model.specs.World.{most_cells}
 use Rattle.model.proofs.Lists.{comes_of}
 use Rattle.lent.specs.declared.Stretch.{Stretch}

@@ -1,10 +1,13 @@
 -- How the next generation of a list is worked out: row by row, and in a row column by column, through a window of three rows and three columns.
-use Rattle.std.specs.Prelude.{◌≡◌, ℕ, ◌+◌, ◌-◌, ◌*◌, ◌^◌, ◌<◌, ◌≤◌, Bool, true, false, cond, ◌&&◌, T, ◌⊎◌, List, length, ℤ, Some, None, Option, nat_lt}
+use Rattle.std.specs.Prelude.{◌≡◌, ℕ, ◌+◌, ◌-◌, ◌*◌, ◌^◌, ◌<◌, ◌≤◌, Bool, true, false, cond, ◌&&◌, T, ◌⊎◌, List, length, ℤ, Ok, Err, Result, nat_lt}
+use Rattle.model.specs.declared.Refusal.{Refusal}
+use Rattle.model.specs.declared.Refusal.TheVariants.{NoRoom}
 use Rattle.model.specs.Planes.{Plane, back, ahead, step}
 use Rattle.model.specs.Rules.{Rule, good_rule, as_one, life}
 use Rattle.model.specs.Lists.{next_of}
 use Rattle.model.specs.World.{most_cells}
-use Rattle.model.specs.Cells.{Cell, cell_at, before, in_order, lives, plane_of}
+use Rattle.model.specs.declared.Cell.{Cell}
+use Rattle.model.specs.Cells.{cell_at, before, in_order, lives, plane_of}
 use Rattle.lent.specs.declared.Stretch.{Stretch}
 use Rattle.lent.specs.Stretches.{to_z, tab, entry, row_at, col_at, cells_in, room_words, Listed, Apart}
 use Rattle.generation.specs.declared.scan.Cursor.{Cursor}
@@ -116,17 +119,17 @@ pub record Progress (r : Rule) (m : List ℕ) (s : Stretch) (to out : ℕ) (c : 
 abbrev pub Full : Rule → List ℕ → Stretch → Type 0
 Full r m s = most_cells < length (next_of r (cells_in m s))
 
--- after one column: m became m', the window w'
-abbrev pub Turned : Rule → List ℕ → List ℕ → Stretch → ℕ → Sweep → Option ℕ → Type 0
-Turned r m m' s to w' (Some k) = Progress r m' s to k (centre_of w') × Window m' s w'
-Turned r m m' s to w' None = Full r m s
+-- After one column: what was made so far, with the window w'; or that the list is full.
+abbrev pub Turned : Rule → List ℕ → List ℕ → Stretch → ℕ → Sweep → Result Stretch Refusal → Type 0
+Turned r m m' s to w' (Ok t) = (t.at ≡ to) × Progress r m' s to t.len (centre_of w') × Window m' s w'
+Turned r m m' s to w' (Err e) = (e ≡ NoRoom) × Full r m s
 
 -- after one row, the one above row v
-abbrev pub RowMade : Rule → List ℕ → List ℕ → Stretch → ℕ → ℕ → Option ℕ → Type 0
-RowMade r m m' s to v (Some k) = Progress r m' s to k (row_start v)
-RowMade r m m' s to v None = Full r m s
+abbrev pub RowMade : Rule → List ℕ → List ℕ → Stretch → ℕ → ℕ → Result Stretch Refusal → Type 0
+RowMade r m m' s to v (Ok t) = (t.at ≡ to) × Progress r m' s to t.len (row_start v)
+RowMade r m m' s to v (Err e) = (e ≡ NoRoom) × Full r m s
 
--- after all rows: how many cells the list at `to` has, the next generation; or that they are too many
-abbrev pub NextMade : Rule → List ℕ → List ℕ → Stretch → ℕ → Option ℕ → Type 0
-NextMade r m m' s to (Some k) = (k ≤ most_cells) × (cells_in m' (record { at = to; len = k }) ≡ next_of r (cells_in m s))
-NextMade r m m' s to None = Full r m s
+-- after all rows: the list at `to` is the next generation; or that its cells are too many
+abbrev pub NextMade : Rule → List ℕ → List ℕ → Stretch → ℕ → Result Stretch Refusal → Type 0
+NextMade r m m' s to (Ok t) = (t.at ≡ to) × (t.len ≤ most_cells) × (cells_in m' t ≡ next_of r (cells_in m s))
+NextMade r m m' s to (Err e) = (e ≡ NoRoom) × Full r m s

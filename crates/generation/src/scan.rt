@@ -1,12 +1,12 @@
 ghost use Rattle.std.specs.Prelude.{◌≡◌, ℕ, ◌+◌, ◌*◌, ◌^◌, ◌<◌, ◌≤◌, min, true, false, List, length, ◌==◌, ◌≢◌};
-ghost use Rattle.lent.specs.Mem.{mem};
-ghost use Rattle.lent.specs.Stretches.{to_z, row_at, col_at, cells_in, Listed, room_words, room_cells};
-ghost use Rattle.lent.specs.declared.Stretch.{Stretch as Place};
+ghost use Rattle.lent.specs.Lists.{words_of, stretch_of, cells_of};
+ghost use Rattle.lent.specs.Stretches.{to_z, row_at, Listed};
+ghost use Rattle.lent.specs.declared.Stretch.{Stretch};
 ghost use Rattle.model.specs.Rules.{Rule, as_one, becomes};
 ghost use Rattle.model.specs.Cells.{lives};
 ghost use Rattle.generation.specs.Scan.{head_of, CursorAt, Window, Ready, Skipped, weight, plane_next, RowsAt, RowsSkipped, rows_left};
 
-use lent::{Stretch, Words};
+use lent::CellList;
 
 // The head of a row that has ended: above any column.
 const END: u64 = u64::MAX;
@@ -20,36 +20,32 @@ pub struct Cursor {
     head: u64,
 }
 
-fn head(words: &Words, from: Stretch, at: usize, end: usize) -> u64
-    requires { (from.at + room_words ≤ length (mem words.now)) × (end ≤ room_cells) }
-    ensures { result ≡ head_of (mem words.now) from at end }
+fn head(list: CellList, at: usize, end: usize) -> u64
+    requires { end ≤ (stretch_of list).len }
+    ensures { result ≡ head_of (words_of list.entry) (stretch_of list.entry) at end }
 {
-    if at < end {
-        words.read(from.at + 2 * at + 1)
-    } else {
-        END
-    }
+    if at < end { list.at(at).column } else { END }
 }
 
 impl Cursor {
-    fn new(words: &Words, from: Stretch, row: u64, at: usize, end: usize) -> Cursor
-        requires { (from.at + room_words ≤ length (mem words.now)) × (end ≤ room_cells) }
-        ensures { result ≡ record { row = row; at = at; end = end; head = head_of (mem words.now) from at end } }
+    fn new(list: CellList, row: u64, at: usize, end: usize) -> Cursor
+        requires { end ≤ (stretch_of list).len }
+        ensures { result ≡ record { row = row; at = at; end = end; head = head_of (words_of list.entry) (stretch_of list.entry) at end } }
     {
         Cursor {
             row,
             at,
             end,
-            head: head(words, from, at, end),
+            head: head(list, at, end),
         }
     }
 
     // Whether the row's cell in column x lives. The cursor moves on to the next column.
-    fn take(&mut self, words: &Words, from: Stretch, x: u64) -> bool
-        requires { (Listed (mem words.now) from) × ((CursorAt (mem words.now) from x self.old) × (x < 2 ^ 63)) }
+    fn take(&mut self, list: CellList, x: u64) -> bool
+        requires { (CursorAt (words_of list) (stretch_of list) x self.old) × (x < 2 ^ 63) }
         ensures hit { result ≡ (self.old.head == x) }
-        ensures lives { result ≡ lives (to_z x) (to_z self.old.row) (cells_in (mem words.now) from) }
-        ensures moved { CursorAt (mem words.now) from (x + 1) self.new }
+        ensures lives { result ≡ lives (to_z x) (to_z self.old.row) (cells_of list.entry) }
+        ensures moved { CursorAt (words_of list.entry) (stretch_of list.entry) (x + 1) self.new }
         ensures row { self.new.row ≡ self.old.row }
         ensures end { self.new.end ≡ self.old.end }
         ensures at { self.new.at ≡ self.old.at + as_one result }
@@ -59,7 +55,7 @@ impl Cursor {
         }
         let at = self.at + 1;
         self.at = at;
-        self.head = head(words, from, at, self.end);
+        self.head = head(list, at, self.end);
         true
     }
 }
@@ -86,16 +82,16 @@ pub struct Spot {
 
 impl Sweep {
     // Left of all cells of the three rows.
-    pub fn start(words: &Words, from: Stretch, rows: Rows) -> Sweep
-        requires { (Listed (mem words.now) from) × (RowsAt (mem words.now) from rows) }
-        ensures window { Window (mem words.now) from result }
+    pub fn start(list: CellList, rows: Rows) -> Sweep
+        requires { RowsAt (words_of list) (stretch_of list) rows }
+        ensures window { Window (words_of list.entry) (stretch_of list.entry) result }
         ensures row { result.above.row ≡ rows.top }
         ensures x { result.x ≡ 0 }
     {
         Sweep {
-            above: Cursor::new(words, from, rows.top, rows.a, rows.b),
-            here: Cursor::new(words, from, rows.top + 1, rows.b, rows.c),
-            below: Cursor::new(words, from, rows.top + 2, rows.c, rows.d),
+            above: Cursor::new(list, rows.top, rows.a, rows.b),
+            here: Cursor::new(list, rows.top + 1, rows.b, rows.c),
+            below: Cursor::new(list, rows.top + 2, rows.c, rows.d),
             x: 0,
             left: 0,
             middle: 0,
@@ -105,7 +101,7 @@ impl Sweep {
 
     // Moves on to the next column with a living cell within reach; false if there is none.
     pub fn skip(&mut self) -> bool
-        ensures { (m : List ℕ) (s : Place) → Listed m s → Window m s self.old → Skipped m s self.old self.new result }
+        ensures { (m : List ℕ) (s : Stretch) → Listed m s → Window m s self.old → Skipped m s self.old self.new result }
     {
         if self.left > 0 {
             return true;
@@ -129,19 +125,19 @@ impl Sweep {
     }
 
     // The centre of the window, which moves on by one column.
-    pub fn slide(&mut self, words: &Words, from: Stretch) -> Spot
-        requires { (Listed (mem words.now) from) × ((Window (mem words.now) from self.old) × (Ready self.old)) }
-        ensures window { Window (mem words.now) from self.new }
+    pub fn slide(&mut self, list: CellList) -> Spot
+        requires { (Window (words_of list) (stretch_of list) self.old) × (Ready self.old) }
+        ensures window { Window (words_of list.entry) (stretch_of list.entry) self.new }
         ensures x { self.new.x ≡ self.old.x + 1 }
         ensures row { self.new.above.row ≡ self.old.above.row }
-        ensures fate { (law : Rule) → plane_next law (mem words.now) from (to_z (self.old.x + 1)) (to_z self.old.here.row) ≡ becomes law result.alive result.neighbours }
+        ensures fate { (law : Rule) → plane_next law (words_of list.entry) (stretch_of list.entry) (to_z (self.old.x + 1)) (to_z self.old.here.row) ≡ becomes law result.alive result.neighbours }
         ensures few { result.neighbours ≤ 8 }
         ensures falls { weight self.new < weight self.old }
     {
         let x = self.x + 2;
-        let above = self.above.take(words, from, x);
-        let here = self.here.take(words, from, x);
-        let below = self.below.take(words, from, x);
+        let above = self.above.take(list, x);
+        let here = self.here.take(list, x);
+        let below = self.below.take(list, x);
         let right = u32::from(above) + u32::from(here) + u32::from(below);
         let neighbours = self.left + self.middle + right - u32::from(self.alive);
         let spot = Spot {
@@ -167,18 +163,15 @@ pub struct Rows {
 }
 
 // Where the row of the cells from `at` on ends.
-fn row_end(words: &Words, from: Stretch, at: usize, row: u64) -> usize
-    requires { (from.at + room_words ≤ length (mem words.now)) × ((from.len ≤ room_cells) × (at ≤ from.len)) }
+fn row_end(list: CellList, at: usize, row: u64) -> usize
+    requires { at ≤ (stretch_of list).len }
     ensures low { at ≤ result }
-    ensures high { result ≤ from.len }
-    ensures inside { (k : ℕ) → at ≤ k → k < result → row_at (mem words.now) from.at k ≡ row }
-    ensures ends { result < from.len → row_at (mem words.now) from.at result ≢ row }
+    ensures high { result ≤ (stretch_of list.entry).len }
+    ensures inside { (k : ℕ) → at ≤ k → k < result → row_at (words_of list.entry) (stretch_of list.entry).at k ≡ row }
+    ensures ends { result < (stretch_of list.entry).len → row_at (words_of list.entry) (stretch_of list.entry).at result ≢ row }
 {
-    let mut i = at;
-    while i < from.len && words.read(from.at + 2 * i) == row {
-        i += 1;
-    }
-    i
+    let end = list.len();
+    (at..end).find(|i| list.at(*i).row != row).unwrap_or(end)
 }
 
 impl Rows {
@@ -196,31 +189,31 @@ impl Rows {
     }
 
     // Moves on to the next rows with a cell; false if there are none.
-    pub fn skip(&mut self, words: &Words, from: Stretch) -> bool
-        requires { (Listed (mem words.now) from) × (RowsAt (mem words.now) from self.old) }
-        ensures { RowsSkipped (mem words.now) from self.old self.new result }
+    pub fn skip(&mut self, list: CellList) -> bool
+        requires { RowsAt (words_of list) (stretch_of list) self.old }
+        ensures { RowsSkipped (words_of list.entry) (stretch_of list.entry) self.old self.new result }
     {
         if self.a < self.d {
             return true;
         }
-        if self.d == from.len {
+        if self.d == list.len() {
             return false;
         }
-        let row = words.read(from.at + 2 * self.d);
-        let end = row_end(words, from, self.d, row);
+        let row = list.at(self.d).row;
+        let end = row_end(list, self.d, row);
         self.top = row - 2;
         self.d = end;
         true
     }
 
     // The three rows that begin one lower.
-    pub fn slide(&mut self, words: &Words, from: Stretch)
-        requires { (Listed (mem words.now) from) × ((RowsAt (mem words.now) from self.old) × (self.old.a < self.old.d)) }
-        ensures rows { RowsAt (mem words.now) from self.new }
+    pub fn slide(&mut self, list: CellList)
+        requires { (RowsAt (words_of list) (stretch_of list) self.old) × (self.old.a < self.old.d) }
+        ensures rows { RowsAt (words_of list.entry) (stretch_of list.entry) self.new }
         ensures top { self.new.top ≡ self.old.top + 1 }
-        ensures falls { rows_left from self.new < rows_left from self.old }
+        ensures falls { rows_left (stretch_of list.entry) self.new < rows_left (stretch_of list.entry) self.old }
     {
-        let end = row_end(words, from, self.d, self.top + 3);
+        let end = row_end(list, self.d, self.top + 3);
         self.a = self.b;
         self.b = self.c;
         self.c = self.d;

@@ -65,7 +65,7 @@ impl Hold {
         requires within { (k < self.now.len) × (self.now.from + self.now.len ≤ store.now.top) }
         ensures is { result ≡ held store.now (self.now.from + k) }
     {
-        store.held(self.from + k) as usize
+        store.held(self.from + k)
     }
 
     // Holds one square more.
@@ -104,6 +104,6 @@ fn push(store: &mut Store, number: usize)
     ensures pushed { Pushed store.old store.new number }
 {
     let top = store.top;
-    store.set_held(top, number as u64);
+    store.set_held(top, number);
     store.top = top + 1;
 }

@@ -1,9 +1,10 @@
 -- Bits that are added and chosen, place by place.
 use Rattle.std.proofs.Common.{◌≡◌, ℕ, ◌+◌, ◌-◌, ◌*◌, ◌/◌, ◌%◌, ◌^◌, ◌<◌, ◌≤◌, Bool, true, false, cond, not, ◌&&◌, ◌||◌, sym, refl, ap, ◌∙◌, arith}
 use lib.Bits.{bit_and, bit_or, bit_xor}
-use Rattle.model.specs.Rules.{Rule as Law, as_one, tally, becomes}
+use Rattle.model.specs.Rules.{Rule as Law, nth, flags, as_one, tally, becomes}
 use Rattle.std.proofs.lemmas.Bool.Decides.{nat_tests}
 use Rattle.leaf.specs.Words.{bit, digit, cell_in, inner, neighbours_in}
+use Rattle.leaf.specs.Fates.{full, life_law}
 use Rattle.leaf.proofs.BitLaws.{bit_of_and, bit_of_or, bit_of_xor, bit_not, bit_above, bit_shr, bit_shl, either, mask_cells}
 
 keep : (p : Bool) → (p && true) ≡ p
@@ -67,49 +68,45 @@ shifted_on : (w x y d u v : ℕ) → d + (8 * y + x) ≡ 8 * v + u → bit (w / 
 unfolding cell_in
 shifted_on w x y d u v e = bit_shr w d (8 * y + x) ∙ ap (bit w) e
 
-pub around : (w x y : ℕ) → 0 < x → x < 7 → 0 < y → y < 7 → (s : ℕ → ℕ) →
-    ((k : ℕ) →
-    digit (w * 2 ^ 9 % 2 ^ 64) k + (digit (w * 2 ^ 8 % 2 ^ 64) k + (digit (w * 2 ^ 7 % 2 ^ 64) k + (digit (w * 2 ^ 1 % 2 ^ 64) k +
-    (digit (w / 2 ^ 1) k + (digit (w / 2 ^ 7) k + (digit (w / 2 ^ 8) k + digit (w / 2 ^ 9) k)))))) ≡ s k) →
-    neighbours_in w x y ≡ s (8 * y + x)
-around w x y hx kx hy ky s h =
-    let nw = shifted_back w x y 9 (x - 1) (y - 1) (omega arith) (omega arith) (omega arith) in
-    let n = shifted_back w x y 8 x (y - 1) (omega arith) (omega arith) (omega arith) in
-    let ne = shifted_back w x y 7 (x + 1) (y - 1) (omega arith) (omega arith) (omega arith) in
+-- three cells of a row
+row_at : (w x y : ℕ) → 0 < x → x < 7 → y < 8 →
+    digit (w * 2 ^ 1 % 2 ^ 64) (8 * y + x) + digit (w / 2 ^ 1) (8 * y + x) + digit w (8 * y + x) ≡
+    as_one (cell_in w (x - 1) y) + as_one (cell_in w (x + 1) y) + as_one (cell_in w x y)
+unfolding cell_in
+row_at w x y hx kx hy =
     let west = shifted_back w x y 1 (x - 1) y (omega arith) (omega arith) (omega arith) in
     let east = shifted_on w x y 1 (x + 1) y (omega arith) in
-    let sw = shifted_on w x y 7 (x - 1) (y + 1) (omega arith) in
-    let south = shifted_on w x y 8 x (y + 1) (omega arith) in
-    let se = shifted_on w x y 9 (x + 1) (y + 1) (omega arith) in
-    (λ i. tally (sym nw i) (sym n i) (sym ne i) (sym west i) (sym east i) (sym sw i) (sym south i) (sym se i)) ∙ h (8 * y + x)
+    λ i. as_one (west i) + as_one (east i) + digit w (8 * y + x)
+
+-- the eight neighbours: two beside, and the sums of three of the rows above and below
+pub around : (w low high x y : ℕ) → 0 < x → x < 7 → 0 < y → y < 7 →
+    ((k : ℕ) → digit (w * 2 ^ 1 % 2 ^ 64) k + digit (w / 2 ^ 1) k + digit w k ≡ digit low k + 2 * digit high k) →
+    let k = 8 * y + x in
+    neighbours_in w x y ≡
+    digit (low * 2 ^ 8 % 2 ^ 64) k + 2 * digit (high * 2 ^ 8 % 2 ^ 64) k + (digit (w * 2 ^ 1 % 2 ^ 64) k + digit (w / 2 ^ 1) k) +
+    (digit (low / 2 ^ 8) k + 2 * digit (high / 2 ^ 8) k)
+unfolding cell_in
+around w low high x y hx kx hy ky rows =
+    let above : (v : ℕ) → bit (v * 2 ^ 8 % 2 ^ 64) (8 * y + x) ≡ cell_in v x (y - 1) = λ v. shifted_back v x y 8 x (y - 1) (omega arith) (omega arith) (omega arith) in
+    let below : (v : ℕ) → bit (v / 2 ^ 8) (8 * y + x) ≡ cell_in v x (y + 1) = λ v. shifted_on v x y 8 x (y + 1) (omega arith) in
+    let a = sym (rows (8 * (y - 1) + x)) ∙ row_at w x (y - 1) hx kx (omega arith) in
+    let b = sym (rows (8 * (y + 1) + x)) ∙ row_at w x (y + 1) hx kx (omega arith) in
+    let west = ap as_one (shifted_back w x y 1 (x - 1) y (omega arith) (omega arith) (omega arith)) in
+    let east = ap as_one (shifted_on w x y 1 (x + 1) y (omega arith)) in
+    let al = ap as_one (above low) in let ah = ap as_one (above high) in let bl = ap as_one (below low) in let bh = ap as_one (below high) in
+    omega arith
 
 -- ---- the rule
 
-pub fate_words : (r : Law) (w n born stay : ℕ) (b s : Bool) → w < 2 ^ 64 → b ≡ becomes r false n → s ≡ becomes r true n →
-    born ≡ cond b (2 ^ 64 - 1 - w) 0 → stay ≡ cond s w 0 → (k : ℕ) → k < 64 → bit (bit_or born stay) k ≡ becomes r (bit w k) n
-fate_words r w n born stay b s h eb es fb fs k l =
-    bit_of_or born stay k ∙ (λ i. (ap (λ (m : ℕ). bit m k) fb ∙ dead b) i || (ap (λ (m : ℕ). bit m k) fs ∙ alive s) i) ∙
-    both (bit w k) ∙ (λ i. cond (bit w k) (es i) (eb i)) ∙ split (bit w k)
+full_bit : (b : Bool) (k : ℕ) → k < 64 → bit (full b) k ≡ b
+full_bit true k h = bit_not 0 k (omega arith) h ∙ ap not (bit_above 0 0 k (omega arith) (omega arith))
+full_bit false k h = bit_above 0 0 k (omega arith) (omega arith)
+
+pub fate_word : (r : Law) (w n dead alive made k : ℕ) → dead ≡ full (becomes r false n) → alive ≡ full (becomes r true n) → k < 64 →
+    bit made k ≡ cond (bit w k) (bit alive k) (bit dead k) → bit made k ≡ becomes r (bit w k) n
+fate_word r w n dead alive made k d a h e =
+    e ∙ (λ i. cond (bit w k) (bit (a i) k) (bit (d i) k)) ∙ (λ i. cond (bit w k) (full_bit (becomes r true n) k h i) (full_bit (becomes r false n) k h i)) ∙ split (bit w k)
   where
-    none : bit 0 k ≡ false
-    none = bit_above 0 0 k (omega arith) (omega arith)
-
-    dead : (t : Bool) → bit (cond t (2 ^ 64 - 1 - w) 0) k ≡ (not (bit w k) && t)
-    dead true = bit_not w k h l ∙ sym (keep (not (bit w k)))
-    dead false = none ∙ sym (drop (not (bit w k)))
-
-    alive : (t : Bool) → bit (cond t w 0) k ≡ (bit w k && t)
-    alive true = sym (keep (bit w k))
-    alive false = none ∙ sym (drop (bit w k))
-
-    both : (p : Bool) → ((not p && b) || (p && s)) ≡ cond p s b
-    both true = refl
-    both false = idle b
-      where
-        idle : (t : Bool) → (t || false) ≡ t
-        idle true = refl
-        idle false = refl
-
     split : (p : Bool) → cond p (becomes r true n) (becomes r false n) ≡ becomes r p n
     split true = refl
     split false = refl
@@ -144,6 +141,22 @@ in_steps g n o t f e f0 f1 f2 f3 f4 f5 f6 f7 f8 zero two four six low high below
     let lower : low ≡ cond t (cond o (g 3) (g 2)) (cond o (g 1) (g 0)) = l ∙ (λ i. cond t ((w ∙ (λ j. cond o (e3 j) (e2 j))) i) ((z ∙ (λ j. cond o (e1 j) (e0 j))) i)) in
     let upper : high ≡ cond t (cond o (g 7) (g 6)) (cond o (g 5) (g 4)) = u ∙ (λ i. cond t ((x ∙ (λ j. cond o (e7 j) (e6 j))) i) ((q ∙ (λ j. cond o (e5 j) (e4 j))) i)) in
     k ∙ (λ i. cond e (e8 i) ((b ∙ (λ j. cond f (upper j) (lower j))) i)) ∙ by_count g n o t f e h s
+
+-- Life, by the digits of the count
+by_life : (o t f e w : Bool) → as_one o + 2 * as_one t + 4 * as_one f + 8 * as_one e ≤ 8 → let g = becomes life_law w in
+    ((t && not f) && (o || w)) ≡ cond e (g 8) (cond f (cond t (cond o (g 7) (g 6)) (cond o (g 5) (g 4))) (cond t (cond o (g 3) (g 2)) (cond o (g 1) (g 0))))
+unfolding nth flags
+by_life o t f e true h = grind (arith, nat_tests)
+by_life o t f e false h = grind (arith, nat_tests)
+
+pub life_bits : (ones twos fours w n k : ℕ) (e : Bool) → fours < 2 ^ 64 → k < 64 → n ≤ 8 →
+    n ≡ digit ones k + 2 * digit twos k + 4 * digit fours k + 8 * as_one e →
+    bit (bit_and (bit_and twos (2 ^ 64 - 1 - fours)) (bit_or ones w)) k ≡ becomes life_law (bit w k) n
+life_bits ones twos fours w n k e h l m s =
+    bit_of_and (bit_and twos (2 ^ 64 - 1 - fours)) (bit_or ones w) k ∙
+    (λ i. (bit_of_and twos (2 ^ 64 - 1 - fours) k ∙ (λ j. bit twos k && bit_not fours k h l j)) i && bit_of_or ones w k i) ∙
+    by_life (bit ones k) (bit twos k) (bit fours k) e (bit w k) (omega arith) ∙
+    by_count (becomes life_law (bit w k)) n (bit ones k) (bit twos k) (bit fours k) e m s
 
 one_most : (b : Bool) → as_one b ≤ 1
 one_most true = omega arith

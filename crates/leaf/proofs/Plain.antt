@@ -2,7 +2,7 @@
 use Rattle.std.proofs.Common.{◌≡◌, ℕ, ◌+◌, ◌<◌, ◌≤◌, Bool, false, cond, ◌&&◌, ◌||◌, eqb, ltb, ◌⊎◌, sym, ◌∙◌, inl, inr, arith}
 use mir.Val.{bool_byte}
 use Rattle.model.specs.Rules.{tally}
-use Rattle.model.proofs.Order.{byte_one, byte_most}
+use Rattle.model.proofs.Order.{byte_one}
 use Rattle.std.proofs.lemmas.Bool.{cases_eq}
 use Rattle.std.proofs.lemmas.Bool.Decides.{nat_tests}
 use Rattle.leaf.specs.Words.{cell_in, is_at, inner}
@@ -13,13 +13,6 @@ pub count_is : (a b c d e f g h : Bool) →
 count_is a b c d e f g h =
     let a1 = byte_one a in let b1 = byte_one b in let c1 = byte_one c in let d1 = byte_one d in
     let e1 = byte_one e in let f1 = byte_one f in let g1 = byte_one g in let h1 = byte_one h in
-    omega arith
-
-pub count_most : (a b c d e f g h : Bool) →
-    bool_byte a + bool_byte b + bool_byte c + (bool_byte d + bool_byte e) + (bool_byte f + bool_byte g + bool_byte h) ≤ 8
-count_most a b c d e f g h =
-    let a1 = byte_most a in let b1 = byte_most b in let c1 = byte_most c in let d1 = byte_most d in
-    let e1 = byte_most e in let f1 = byte_most f in let g1 = byte_most g in let h1 = byte_most h in
     omega arith
 
 pub none_live : (x y : ℕ) → cell_in 0 x y ≡ false

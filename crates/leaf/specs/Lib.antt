@@ -1,3 +1,4 @@
 pub mod Words
 pub mod Shown
 pub mod AsSquares
+pub mod Fates

@@ -1,5 +1,5 @@
 -- A word of 64 bits as a square of side 8: the cell in column x of row y is bit 8 * y + x.
-use Rattle.std.specs.Prelude.{ℕ, zero, suc, ◌+◌, ◌-◌, ◌*◌, ◌/◌, ◌%◌, ◌^◌, Bool, ◌&&◌, ◌==◌, nat_le, nat_lt}
+use Rattle.std.specs.Prelude.{◌≡◌, ℕ, zero, suc, ◌+◌, ◌-◌, ◌*◌, ◌/◌, ◌%◌, ◌^◌, ◌<◌, Bool, ◌&&◌, ◌==◌, nat_le, nat_lt}
 use Rattle.model.specs.Rules.{Rule as Law, as_one, tally, becomes}
 
 unfoldable pub bit : ℕ → ℕ → Bool
@@ -39,3 +39,7 @@ neighbours_in w x y =
 -- what the rule makes of an inner cell
 abbrev pub next_in : Law → ℕ → ℕ → ℕ → Bool
 next_in r w x y = becomes r (cell_in w x y) (neighbours_in w x y)
+
+-- the word n has the next generation of the inner cells of w, and no other cells
+abbrev pub NextOf : Law → (w n : ℕ) → Type 0
+NextOf r w n = (x y : ℕ) → x < 8 → y < 8 → cell_in n x y ≡ (inner x y && next_in r w x y)

@@ -23,16 +23,19 @@ pub fn neighbour_sums(w: u64) -> Sums
     ensures { (x y : ℕ) → 0 < x → x < 7 → 0 < y → y < 7 →
         neighbours_in w x y ≡ digit result.ones (8 * y + x) + 2 * digit result.twos (8 * y + x) + 4 * digit result.fours (8 * y + x) + 8 * digit result.eights (8 * y + x) }
 {
-    add8(
-        w << 9,
-        w << 8,
-        w << 7,
-        w << 1,
-        w >> 1,
-        w >> 7,
-        w >> 8,
-        w >> 9,
-    )
+    let beside = add2(w << 1, w >> 1);
+    // three cells of a row, for the rows above and below
+    let row = add3(w << 1, w >> 1, w);
+    let ones = add3(row.low << 8, beside.low, row.low >> 8);
+    let carries = add3(row.high << 8, beside.high, row.high >> 8);
+    let twos = add2(ones.high, carries.low);
+    let fours = add2(carries.high, twos.high);
+    Sums {
+        ones: ones.low,
+        twos: twos.low,
+        fours: fours.low,
+        eights: fours.high,
+    }
 }
 
 fn add2(a: u64, b: u64) -> Pair
@@ -51,25 +54,5 @@ fn add3(a: u64, b: u64, c: u64) -> Pair
     Pair {
         low: differ ^ c,
         high: (a & b) | (differ & c),
-    }
-}
-
-fn add8(a: u64, b: u64, c: u64, d: u64, e: u64, f: u64, g: u64, h: u64) -> Sums
-    ensures { (k : ℕ) →
-        digit a k + (digit b k + (digit c k + (digit d k + (digit e k + (digit f k + (digit g k + digit h k))))))
-        ≡ digit result.ones k + 2 * digit result.twos k + 4 * digit result.fours k + 8 * digit result.eights k }
-{
-    let above = add3(a, b, c);
-    let beside = add2(d, e);
-    let below = add3(f, g, h);
-    let ones = add3(above.low, beside.low, below.low);
-    let carries = add3(above.high, beside.high, below.high);
-    let twos = add2(ones.high, carries.low);
-    let fours = add2(carries.high, twos.high);
-    Sums {
-        ones: ones.low,
-        twos: twos.low,
-        fours: fours.low,
-        eights: fours.high,
     }
 }

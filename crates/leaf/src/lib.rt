@@ -1,17 +1,19 @@
 // A word of 64 bits is a square of side 8: the cell in column x of row y is bit 8y + x, and lives where that is set.
 #![tactic(auto)]
 
-ghost use Rattle.std.specs.Prelude.{◌≡◌, ℕ, ◌+◌, ◌<◌, ◌≤◌, Bool, ◌&&◌, ◌||◌, T, pos, if◌then◌else◌};
-ghost use Rattle.leaf.specs.Words.{bit, cell_in, is_at, in_row, living_in, inner, neighbours_in, next_in};
+ghost use Rattle.std.specs.Prelude.{◌≡◌, ℕ, ◌+◌, ◌<◌, ◌≤◌, Bool, ◌&&◌, ◌||◌, pos, if◌then◌else◌, slice_index};
+ghost use Rattle.leaf.specs.Words.{bit, cell_in, is_at, in_row, living_in, inner, neighbours_in, next_in, NextOf};
+ghost use Rattle.leaf.specs.Fates.{full, Fated, life_law, Suits};
 ghost use Rattle.leaf.specs.Shown.{Shows16, Later, after};
 ghost use Rattle.leaf.specs.AsSquares.{IsLeap};
 ghost use Rattle.model.specs.Planes.{Plane};
-ghost use Rattle.model.specs.Rules.{good_rule, becomes};
+ghost use Rattle.model.specs.Rules.{Rule as Law, becomes};
 ghost use Rattle.rules.specs.Laws.{law};
 
 mod adders;
 
 use adders::neighbour_sums;
+use model::Quarters;
 use rules::Rule;
 
 // The left and the right half of every row.
@@ -74,18 +76,20 @@ pub fn between_down(north: u64, south: u64) -> u64
 }
 
 // The word in the middle of four.
-pub fn middle(nw: u64, ne: u64, sw: u64, se: u64) -> u64
-    ensures nw { (x y : ℕ) → x < 4 → y < 4 → cell_in result x y ≡ cell_in nw (x + 4) (y + 4) }
-    ensures ne { (x y : ℕ) → x < 4 → y < 4 → cell_in result (x + 4) y ≡ cell_in ne x (y + 4) }
-    ensures sw { (x y : ℕ) → x < 4 → y < 4 → cell_in result x (y + 4) ≡ cell_in sw (x + 4) y }
-    ensures se { (x y : ℕ) → x < 4 → y < 4 → cell_in result (x + 4) (y + 4) ≡ cell_in se x y }
+pub fn middle(four: Quarters<u64>) -> u64
+    ensures nw { (x y : ℕ) → x < 4 → y < 4 → cell_in result x y ≡ cell_in four.nw (x + 4) (y + 4) }
+    ensures ne { (x y : ℕ) → x < 4 → y < 4 → cell_in result (x + 4) y ≡ cell_in four.ne x (y + 4) }
+    ensures sw { (x y : ℕ) → x < 4 → y < 4 → cell_in result x (y + 4) ≡ cell_in four.sw (x + 4) y }
+    ensures se { (x y : ℕ) → x < 4 → y < 4 → cell_in result (x + 4) (y + 4) ≡ cell_in four.se x y }
 {
-    between_down(between_across(nw, ne), between_across(sw, se))
+    between_down(
+        between_across(four.nw, four.ne),
+        between_across(four.sw, four.se),
+    )
 }
 
 // One generation of the inner cells, cell by cell. The cells of the rim, whose neighbours are not all known, are dead.
 pub fn generation_plain(rule: Rule, w: u64) -> u64
-    requires { T (good_rule (law rule)) }
     ensures { (x y : ℕ) → x < 8 → y < 8 → cell_in result x y ≡ (inner x y && next_in (law rule) w x y) }
 {
     let mut next = 0;
@@ -105,44 +109,126 @@ fn neighbours(w: u64, x: u32, y: u32) -> u32
     ensures is { result ≡ neighbours_in w x y }
     ensures eight { result ≤ 8 }
 {
-    let above = cell(w, x - 1, y - 1) as u32
-        + cell(w, x, y - 1) as u32
-        + cell(w, x + 1, y - 1) as u32;
-    let beside = cell(w, x - 1, y) as u32 + cell(w, x + 1, y) as u32;
-    let below = cell(w, x - 1, y + 1) as u32
-        + cell(w, x, y + 1) as u32
-        + cell(w, x + 1, y + 1) as u32;
+    let above = u32::from(cell(w, x - 1, y - 1))
+        + u32::from(cell(w, x, y - 1))
+        + u32::from(cell(w, x + 1, y - 1));
+    let beside = u32::from(cell(w, x - 1, y)) + u32::from(cell(w, x + 1, y));
+    let below = u32::from(cell(w, x - 1, y + 1))
+        + u32::from(cell(w, x, y + 1))
+        + u32::from(cell(w, x + 1, y + 1));
     above + beside + below
 }
 
-// The same generation, all cells at once: the neighbours are counted in binary, and each digit of the count halves what
-// may become of a cell.
+// The same generation, all cells at once.
 pub fn generation(rule: Rule, w: u64) -> u64
-    requires { T (good_rule (law rule)) }
     ensures { (x y : ℕ) → x < 8 → y < 8 → cell_in result x y ≡ (inner x y && next_in (law rule) w x y) }
 {
+    let [next] = next_each(Way::new(rule), [w]);
+    next
+}
+
+// How the next generation is worked out. Life, the rule of most runs, has a shorter way of its own.
+#[derive(Clone, Copy)]
+enum Way {
+    Life,
+    ByFates(Fates),
+}
+
+impl Way {
+    fn new(rule: Rule) -> Way
+        ensures { Suits (law rule) result }
+    {
+        if rule == Rule::life() {
+            Way::Life
+        } else {
+            Way::ByFates(Fates::new(rule))
+        }
+    }
+}
+
+// The next generation of each word. The compiler makes such a loop do several words at a time.
+fn next_each<const N: usize>(way: Way, mut words: [u64; N]) -> [u64; N]
+    ensures { (l : Law) → Suits l way → (i : ℕ) → i < N → NextOf l (slice_index words.entry i) (slice_index result i) }
+{
+    match way {
+        Way::Life => {
+            for w in words.iter_mut() {
+                *w = next_of_life(*w);
+            }
+        }
+        Way::ByFates(fates) => {
+            for w in words.iter_mut() {
+                *w = next_by_fates(fates, *w);
+            }
+        }
+    }
+    words
+}
+
+// Under Life a cell lives if three of its neighbours do, or two of them and itself.
+fn next_of_life(w: u64) -> u64
+    ensures { NextOf life_law w result }
+{
     let sums = neighbour_sums(w);
-    let six = choose(sums.ones, fates(rule, w, 7), fates(rule, w, 6));
-    let four = choose(sums.ones, fates(rule, w, 5), fates(rule, w, 4));
-    let two = choose(sums.ones, fates(rule, w, 3), fates(rule, w, 2));
-    let zero = choose(sums.ones, fates(rule, w, 1), fates(rule, w, 0));
+    sums.twos & !sums.fours & (sums.ones | w) & INNER
+}
+
+// Each binary digit of the neighbours' count halves what may become of a cell.
+fn next_by_fates(fates: Fates, w: u64) -> u64
+    ensures { (l : Law) → Fated l fates → NextOf l w result }
+{
+    let sums = neighbour_sums(w);
+    let six = choose(sums.ones, fates.of(w, 7), fates.of(w, 6));
+    let four = choose(sums.ones, fates.of(w, 5), fates.of(w, 4));
+    let two = choose(sums.ones, fates.of(w, 3), fates.of(w, 2));
+    let zero = choose(sums.ones, fates.of(w, 1), fates.of(w, 0));
     let below_eight = choose(
         sums.fours,
         choose(sums.twos, six, four),
         choose(sums.twos, two, zero),
     );
-    choose(sums.eights, fates(rule, w, 8), below_eight) & INNER
+    choose(sums.eights, fates.of(w, 8), below_eight) & INNER
 }
 
-// What becomes of each cell if so many of its neighbours live.
-fn fates(rule: Rule, w: u64, neighbours: u32) -> u64
-    requires good { T (good_rule (law rule)) }
-    requires eight { neighbours ≤ 8 }
-    ensures { (k : ℕ) → k < 64 → bit result k ≡ becomes (law rule) (bit w k) neighbours }
+// What a rule makes of dead cells and of living ones with so many living neighbours: all bits or none.
+#[derive(Clone, Copy)]
+struct Fate {
+    dead: u64,
+    alive: u64,
+}
+
+// The fates of a rule, for 0 to 8 living neighbours.
+#[derive(Clone, Copy)]
+struct Fates {
+    each: [Fate; 9],
+}
+
+impl Fates {
+    fn new(rule: Rule) -> Fates
+        ensures { Fated (law rule) result }
+    {
+        Fates {
+            each: std::array::from_fn(|n| Fate {
+                dead: filled(rule.fate(false, n as u32)),
+                alive: filled(rule.fate(true, n as u32)),
+            }),
+        }
+    }
+
+    // What becomes of each cell if so many of its neighbours live.
+    fn of(self, w: u64, neighbours: usize) -> u64
+        requires { neighbours ≤ 8 }
+        ensures { (l : Law) → Fated l self → (k : ℕ) → k < 64 → bit result k ≡ becomes l (bit w k) neighbours }
+    {
+        let fate = self.each[neighbours];
+        choose(w, fate.alive, fate.dead)
+    }
+}
+
+fn filled(yes: bool) -> u64
+    ensures { result ≡ full yes }
 {
-    let born = if rule.fate(false, neighbours) { !w } else { 0 };
-    let stay = if rule.fate(true, neighbours) { w } else { 0 };
-    born | stay
+    if yes { u64::MAX } else { 0 }
 }
 
 // In each place the bit of `yes` or of `no`.
@@ -153,14 +239,13 @@ fn choose(which: u64, yes: u64, no: u64) -> u64
 }
 
 // Some generations, each of which leaves a ring of cells more unknown.
-fn advance(rule: Rule, w: u64, n: u32) -> u64
-    requires good { T (good_rule (law rule)) }
-    requires inside { n ≤ 2 }
-    ensures { Later (law rule) n w result }
+fn advance<const N: usize>(way: Way, words: [u64; N], n: u32) -> [u64; N]
+    requires { n ≤ 2 }
+    ensures { (l : Law) → Suits l way → (i : ℕ) → i < N → Later l n (slice_index words.entry i) (slice_index result i) }
 {
-    let mut now = w;
+    let mut now = words;
     for _ in 0..n {
-        now = generation(rule, now);
+        now = next_each(way, now);
     }
     now
 }
@@ -181,27 +266,38 @@ fn join_cores(nw: u64, ne: u64, sw: u64, se: u64) -> u64
 //
 // Nine words that overlap by half are advanced; their cores make four words that lie two cells further in, and the cores
 // of those, advanced in turn, make the middle.
-pub fn leap16(rule: Rule, nw: u64, ne: u64, sw: u64, se: u64, n: u32) -> u64
-    requires good { T (good_rule (law rule)) }
-    requires four { n ≤ 4 }
-    ensures leap { IsLeap (law rule) nw ne sw se n result }
-    ensures plane { (p : Plane Bool) → Shows16 nw ne sw se p → (x y : ℕ) → x < 8 → y < 8 → cell_in result x y ≡ after (law rule) n p (pos (x + 4)) (pos (y + 4)) }
+pub fn leap16(rule: Rule, four: Quarters<u64>, n: u32) -> u64
+    requires { n ≤ 4 }
+    ensures leap { IsLeap (law rule) four.nw four.ne four.sw four.se n result }
+    ensures plane { (p : Plane Bool) → Shows16 four.nw four.ne four.sw four.se p → (x y : ℕ) → x < 8 → y < 8 → cell_in result x y ≡ after (law rule) n p (pos (x + 4)) (pos (y + 4)) }
 {
+    let Quarters { nw, ne, sw, se } = four;
+    let way = Way::new(rule);
     let first = n.saturating_sub(2);
-    let north = advance(rule, between_across(nw, ne), first);
-    let west = advance(rule, between_down(nw, sw), first);
-    let centre = advance(rule, middle(nw, ne, sw, se), first);
-    let east = advance(rule, between_down(ne, se), first);
-    let south = advance(rule, between_across(sw, se), first);
-    let nw = advance(rule, nw, first);
-    let ne = advance(rule, ne, first);
-    let sw = advance(rule, sw, first);
-    let se = advance(rule, se, first);
-
-    let second = n - first;
-    let nw_core = advance(rule, join_cores(nw, north, west, centre), second);
-    let ne_core = advance(rule, join_cores(north, ne, centre, east), second);
-    let sw_core = advance(rule, join_cores(west, centre, sw, south), second);
-    let se_core = advance(rule, join_cores(centre, east, south, se), second);
-    join_cores(nw_core, ne_core, sw_core, se_core)
+    let [nw, north, ne, west, centre, east, sw, south, se] = advance(
+        way,
+        [
+            nw,
+            between_across(nw, ne),
+            ne,
+            between_down(nw, sw),
+            middle(four),
+            between_down(ne, se),
+            sw,
+            between_across(sw, se),
+            se,
+        ],
+        first,
+    );
+    let [nw, ne, sw, se] = advance(
+        way,
+        [
+            join_cores(nw, north, west, centre),
+            join_cores(north, ne, centre, east),
+            join_cores(west, centre, sw, south),
+            join_cores(centre, east, south, se),
+        ],
+        n - first,
+    );
+    join_cores(nw, ne, sw, se)
 }

@@ -8,8 +8,9 @@ use borrow.Author.Differences.{ints}
 use lib.Dec.{T}
 use lib.IntN.{ℤ}
 use Rattle.model.specs.Planes.{back, ahead}
-use Rattle.model.specs.Cells.{Cell, cell_at, before, lives}
-use Rattle.model.specs.World.{size}
+use Rattle.model.specs.declared.Cell.{Cell}
+use Rattle.model.specs.Cells.{cell_at, before, lives}
+use Rattle.model.specs.World.{size, edge}
 use Rattle.model.proofs.Reach.{far_out}
 use Rattle.lent.specs.declared.Stretch.{Stretch}
 use Rattle.lent.specs.Stretches.{to_z, row_at, col_at, entry, cells_in, Listed}
@@ -38,12 +39,15 @@ near_word w h = grind (arith, ints)
 pub listed_lives : (m : List ℕ) (s : Stretch) (k : ℕ) → k < s.len → T (lives (to_z (col_at m s.at k)) (to_z (row_at m s.at k)) (cells_in m s))
 listed_lives m s k h = tab_in (entry m s.at) 0 s.len _ _ (record { index = k; low = omega arith; high = omega arith; is = refl })
 
+-- no cell of a list lies beyond the edge
+pub listed_inside : (m : List ℕ) (s : Stretch) → Listed m s → (k : ℕ) → k < s.len → (size (entry m s.at k).x ≤ edge) × (size (entry m s.at k).y ≤ edge)
+listed_inside m s h k b =
+    let f = far_out (cells_in m s) (to_z (col_at m s.at k)) (to_z (row_at m s.at k)) (listed_lives m s k b) in let n = h.near in
+    let fx = f.0 in let fy = f.1 in (omega arith, omega arith)
+
 pub listed_near : (m : List ℕ) (s : Stretch) → Listed m s → (k : ℕ) → k < s.len →
     ((2 ^ 60 ≤ row_at m s.at k) × (row_at m s.at k ≤ 3 * 2 ^ 60)) × ((2 ^ 60 ≤ col_at m s.at k) × (col_at m s.at k ≤ 3 * 2 ^ 60))
-listed_near m s h k b =
-    let f = far_out (cells_in m s) (to_z (col_at m s.at k)) (to_z (row_at m s.at k)) (listed_lives m s k b) in let n = h.near in
-    let fx = f.0 in let fy = f.1 in
-    (near_word (row_at m s.at k) (omega arith), near_word (col_at m s.at k) (omega arith))
+listed_near m s h k b = let f = listed_inside m s h k b in (near_word (row_at m s.at k) f.1, near_word (col_at m s.at k) f.0)
 
 -- the index of a living cell
 pub record Found (m : List ℕ) (s : Stretch) (x y : ℤ) : Type 0 where

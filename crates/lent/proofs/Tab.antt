@@ -9,7 +9,8 @@ use native.Mathlib.Decide.{dec_lt}
 use lib.Dec.{T}
 use lib.IntN.{ℤ}
 use lib.ListN.{length}
-use Rattle.model.specs.Cells.{Cell, cell_at, before, in_order, lives}
+use Rattle.model.specs.declared.Cell.{Cell}
+use Rattle.model.specs.Cells.{cell_at, before, in_order, lives}
 use Rattle.model.proofs.Order.{lives_out, lives_head, lives_tail, lives_none, order_tail, order_after, order_in}
 use Rattle.lent.specs.Stretches.{tab}
 

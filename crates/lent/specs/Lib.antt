@@ -1,2 +1,4 @@
 pub mod Mem
 pub mod Stretches
+pub mod Lists
+pub mod Entries

@@ -1,6 +1,7 @@
 -- Ordered lists of cells in stretches of lent words: two words a cell, its row and then its column.
 use Rattle.std.specs.Prelude.{◌≡◌, ◌⊎◌, List, [], ◌∷◌, ℕ, zero, suc, ◌+◌, ◌*◌, ◌^◌, ◌<◌, ◌≤◌, T, ℤ, pos, neg_ℤ, ◌+ℤ◌, length, get_or, set}
-use Rattle.model.specs.Cells.{Cell, cell_at, in_order}
+use Rattle.model.specs.declared.Cell.{Cell}
+use Rattle.model.specs.Cells.{cell_at, in_order}
 use Rattle.model.specs.World.{edge, farthest}
 use Rattle.lent.specs.declared.Stretch.{Stretch}
 
@@ -49,6 +50,11 @@ pub record Listed (m : List ℕ) (s : Stretch) : Type 0 where
 pub record Beside (at : ℕ) (m m' : List ℕ) : Type 0 where
   pub long : length m' ≡ length m
   pub others : (k : ℕ) → (k < at) ⊎ (at + room_words ≤ k) → get_or m' k 0 ≡ get_or m k 0
+
+-- the cells from..from + n of the list at the word `at` stand where to..to + n stood, and the others are as they were
+pub record Copied (at from to n : ℕ) (m m' : List ℕ) : Type 0 where
+  pub moved : (k : ℕ) → k < n → entry m' at (to + k) ≡ entry m at (from + k)
+  pub others : (k : ℕ) → (k < to) ⊎ (to + n ≤ k) → entry m' at k ≡ entry m at k
 
 -- two stretches that share no word
 abbrev pub Apart : ℕ → ℕ → Type 0

@@ -2,8 +2,15 @@
 #![tactic(auto)]
 
 ghost use Rattle.std.specs.Prelude.{◌≡◌, ℕ, ◌+◌, ◌<◌, ◌≤◌, ◌^◌, ℤ, pos, neg_ℤ, ◌≤ℤ◌, length, get_or, set};
+ghost use Rattle.model.specs.World.{size};
 ghost use Rattle.lent.specs.Mem.{mem, seen, Same};
-ghost use Rattle.lent.specs.Stretches.{to_z, with_entry, room_words, room_cells};
+ghost use Rattle.lent.specs.Stretches.{to_z, with_entry, room_words, room_cells, Beside, Copied};
+ghost use Rattle.lent.specs.Entries.{cell_of, Near};
+
+mod list;
+
+pub use list::CellList;
+use model::Cell;
 
 // No cell may lie farther out than this.
 pub const EDGE: u64 = 1 << 60;
@@ -28,11 +35,18 @@ impl<'a> Words<'a> {
         Words { words: lent }
     }
 
+    // To read them only.
+    pub fn view(&self) -> View<'_>
+        ensures { seen result ≡ mem self.now }
+    {
+        View { lent: self.words }
+    }
+
     pub fn read(&self, i: usize) -> u64
         requires { i < length (mem self.now) }
         ensures { result ≡ get_or (mem self.now) i 0 }
     {
-        self.words[i]
+        self.view().read(i)
     }
 
     pub fn write(&mut self, at: usize, value: u64)
@@ -44,14 +58,27 @@ impl<'a> Words<'a> {
     }
 
     // Writes the cell i of the list that begins at the word `at`.
-    pub fn write_cell(&mut self, at: usize, i: usize, row: u64, column: u64)
+    pub fn write_cell(&mut self, at: usize, i: usize, entry: Entry)
         requires { (at + room_words ≤ length (mem self.old)) × (i < room_cells) }
-        ensures after { mem self.new ≡ with_entry (mem self.old) at i row column }
+        ensures after { mem self.new ≡ with_entry (mem self.old) at i entry.row entry.column }
         ensures same { Same self.old self.new }
     {
         let place = at + 2 * i;
-        self.write(place, row);
-        self.write(place + 1, column);
+        self.write(place, entry.row);
+        self.write(place + 1, entry.column);
+    }
+
+    // Copies the cells from..from + n of the list that begins at the word `at` to where its cell `to` stands.
+    pub fn copy_cells(&mut self, at: usize, from: usize, to: usize, n: usize)
+        requires room { at + room_words ≤ length (mem self.old) }
+        requires source { from + n ≤ room_cells }
+        requires target { to + n ≤ room_cells }
+        ensures copied { Copied at from to n (mem self.old) (mem self.new) }
+        ensures beside { Beside at (mem self.old) (mem self.new) }
+        ensures same { Same self.old self.new }
+    {
+        let first = at + 2 * from;
+        self.words.copy_within(first..first + 2 * n, at + 2 * to);
     }
 }
 
@@ -73,6 +100,35 @@ impl<'a> View<'a> {
         ensures { result ≡ get_or (seen self.entry) i 0 }
     {
         self.lent[i]
+    }
+}
+
+// A cell as it stands in lent memory: the words for its row and its column, by which cells are in order.
+#[derive(Clone, Copy, PartialEq, Eq, PartialOrd, Ord, Debug)]
+pub struct Entry {
+    pub row: u64,
+    pub column: u64,
+}
+
+impl Entry {
+    pub fn from_cell(cell: Cell) -> Entry
+        requires { (size cell.x ≤ 2 ^ 61) × (size cell.y ≤ 2 ^ 61) }
+        ensures { cell_of result ≡ cell }
+    {
+        Entry {
+            row: to_word(cell.y),
+            column: to_word(cell.x),
+        }
+    }
+
+    pub fn to_cell(self) -> Cell
+        requires { Near self }
+        ensures { result ≡ cell_of self }
+    {
+        Cell {
+            x: to_coordinate(self.column),
+            y: to_coordinate(self.row),
+        }
     }
 }
 

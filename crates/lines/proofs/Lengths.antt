@@ -1,26 +1,27 @@
 -- No command asks for a row that is too long.
-use Rattle.std.proofs.Common.{◌≡◌, ℕ, ◌-◌, ◌^◌, ◌≤◌, Bool, true, false, cond, leb, List, [], ◌∷◌, ℤ, Some, None, Ok, Err, codes, Option, Result, refl, subst}
+use Rattle.std.proofs.Common.{◌≡◌, ℕ, ◌-◌, ◌^◌, ◌≤◌, Bool, true, false, cond, leb, List, [], ◌∷◌, Some, None, Ok, Err, codes, Option, Result, refl, subst}
 use Rattle.std.proofs.lemmas.Bool.{leb-true}
 use Rattle.std.specs.Option.{ok_or}
 use Rattle.std.specs.Str.{bytes_eq}
 use Rattle.model.specs.declared.Refusal.{Refusal}
 use Rattle.model.specs.declared.Refusal.TheVariants.{BadForm}
-use Rattle.rules.specs.declared.RuleSets.{RuleSets}
+use Rattle.rules.specs.declared.texts.RuleSets.{RuleSets}
+use Rattle.model.specs.declared.Cell.{Cell}
 use Rattle.rules.specs.Texts.{sets_of}
 use Rattle.lines.specs.declared.Command.{Command}
-use Rattle.lines.specs.declared.Command.TheVariants.{Rule, Put, Run, Cell, Count, Row, Bounds, Period}
-use Rattle.lines.specs.Numerals.{into, natural_of, at_most, place_of, flag_of}
+use Rattle.lines.specs.declared.Command.TheVariants.{Rule, Put, Run, Cell as OneCell, Count, Row, Bounds, Period}
+use Rattle.lines.specs.Numerals.{into, natural_of, at_most, up_to, flag_of}
 use Rattle.lines.specs.Splits.{Word, is_line_text, words_of, first, rest}
-use Rattle.lines.specs.Commands.{next, up_to, last, put_of, run_of, cell_of, row_of, period_of, plain_of, named, rule_words, spoken}
+use Rattle.lines.specs.Commands.{next, cell_first, cell_next, last, put_of, run_of, cell_of, row_of, period_of, plain_of, named, rule_words, spoken}
 use Rattle.lines.specs.Promise.{RowsShort}
 
 abbrev Short : Command → Type 0
-Short (Rule born stays) = Unit
-Short (Put x y lives) = Unit
+Short (Rule sets) = Unit
+Short (Put c lives) = Unit
 Short (Run n) = Unit
-Short (Cell x y) = Unit
+Short (OneCell c) = Unit
 Short Count = Unit
-Short (Row x y n) = n ≤ 2 ^ 20
+Short (Row c n) = n ≤ 2 ^ 20
 Short Bounds = Unit
 Short (Period n) = Unit
 
@@ -44,19 +45,18 @@ next_fits : {A : Type 0} (f : Word → Option A) (ws : List Word) (k : A → Lis
     ((x : A) (us : List Word) → Fits (k x us)) → Fits (next f ws k)
 next_fits f ws k h = into_fits (first f ws) (λ x. k x (rest ws)) (λ x. h x (rest ws))
 
-places_fit : (ws : List Word) (k : ℤ → ℤ → List Word → Option Command) → ((x y : ℤ) (vs : List Word) → Fits (k x y vs)) →
-    Fits (next place_of ws (λ x us. next place_of us (λ y. k x y)))
-places_fit ws k h = next_fits place_of ws (λ x us. next place_of us (λ y. k x y)) (λ x us. next_fits place_of us (λ y. k x y) (λ y. h x y))
+cell_fits : (ws : List Word) (k : Cell → List Word → Option Command) → ((c : Cell) (us : List Word) → Fits (k c us)) → Fits (cell_next ws k)
+cell_fits ws k h = into_fits (cell_first ws) (λ c. k c (rest (rest ws))) (λ c. h c (rest (rest ws)))
 
-row_fits : (x y : ℤ) (ws : List Word) → Fits (next (up_to (2 ^ 20)) ws (λ n. last (Row x y n)))
-row_fits x y [] = tt
-row_fits x y (w ∷ ws) = go (natural_of w)
+row_fits : (c : Cell) (ws : List Word) → Fits (next (up_to (2 ^ 20)) ws (λ n. last (Row c n)))
+row_fits c [] = tt
+row_fits c (w ∷ ws) = go (natural_of w)
   where
-    within : (n : ℕ) (t : Bool) → leb n (2 ^ 20) ≡ t → Fits (into (cond t (Some n) None) (λ m. last (Row x y m) ws))
-    within n true e = last_fits (Row x y n) ws (leb-true n (2 ^ 20) e)
+    within : (n : ℕ) (t : Bool) → leb n (2 ^ 20) ≡ t → Fits (into (cond t (Some n) None) (λ m. last (Row c m) ws))
+    within n true e = last_fits (Row c n) ws (leb-true n (2 ^ 20) e)
     within n false e = tt
 
-    go : (o : Option ℕ) → Fits (into (at_most (2 ^ 20) o) (λ m. last (Row x y m) ws))
+    go : (o : Option ℕ) → Fits (into (at_most (2 ^ 20) o) (λ m. last (Row c m) ws))
     go None = tt
     go (Some n) = within n (leb n (2 ^ 20)) refl
 
@@ -69,11 +69,11 @@ plain_fits verb ws =
         Fits
         (cond a (put_of ws) (cond b (run_of ws) (cond c (cell_of ws) (cond d (last Count ws) (cond e (row_of ws) (cond f (last Bounds ws) (cond g (period_of ws) None)))))))
     go true b c d e f g =
-        places_fit ws (λ x y vs. next flag_of vs (λ b. last (Put x y b))) (λ x y vs. next_fits flag_of vs (λ b. last (Put x y b)) (λ b us. last_fits (Put x y b) us tt))
+        cell_fits ws (λ c us. next flag_of us (λ b. last (Put c b))) (λ c us. next_fits flag_of us (λ b. last (Put c b)) (λ b vs. last_fits (Put c b) vs tt))
     go false true c d e f g = next_fits (up_to (2 ^ 64 - 1)) ws (λ n. last (Run n)) (λ n us. last_fits (Run n) us tt)
-    go false false true d e f g = places_fit ws (λ x y. last (Cell x y)) (λ x y vs. last_fits (Cell x y) vs tt)
+    go false false true d e f g = cell_fits ws (λ c. last (OneCell c)) (λ c us. last_fits (OneCell c) us tt)
     go false false false true e f g = last_fits Count ws tt
-    go false false false false true f g = places_fit ws (λ x y vs. next (up_to (2 ^ 20)) vs (λ n. last (Row x y n))) row_fits
+    go false false false false true f g = cell_fits ws (λ c us. next (up_to (2 ^ 20)) us (λ n. last (Row c n))) row_fits
     go false false false false false true g = last_fits Bounds ws tt
     go false false false false false false true = next_fits (up_to (2 ^ 16 - 1)) ws (λ n. last (Period n)) (λ n us. last_fits (Period n) us tt)
     go false false false false false false false = tt
@@ -102,4 +102,4 @@ spoken_right (verb ∷ ws) =
     cond_right (bytes_eq verb (codes "rule")) (rule_words ws) (ok_or (plain_of verb ws) BadForm) (rule_right ws) (or_right (plain_of verb ws) (plain_fits verb ws))
 
 pub rows_short : RowsShort
-rows_short line x y n e = subst Right e (cond_right (is_line_text line) (spoken (words_of line)) (Err BadForm) (spoken_right (words_of line)) tt)
+rows_short line c n e = subst Right e (cond_right (is_line_text line) (spoken (words_of line)) (Err BadForm) (spoken_right (words_of line)) tt)

@@ -1,4 +1,5 @@
-pub mod Reading
 pub mod Splitting
+pub mod Text
+pub mod Reading
 pub mod Lengths
 pub mod Promise

@@ -1,78 +1,65 @@
--- The characters of a line; a line is its first word, and the words after the space that ends it.
-use Rattle.std.proofs.Common.{◌≡◌, ℕ, suc, ◌+◌, ◌-◌, ◌<◌, ◌≤◌, Bool, true, false, cond, eqb, ltb, leb, List, [], ◌∷◌, length, get_or, take, drop, sym, refl, ap, ◌∙◌, ⊎_elim, arith}
-use Rattle.std.proofs.lemmas.List.{at_drop_more, at_drop_all, drop-drop}
-use Rattle.std.proofs.lemmas.Bool.{cases_lt, le-leb, lt-leb, lt-ltb, le-ltb, eq-eqb, ne_eqb}
-use Rattle.lines.specs.Splits.{Word, is_line_text, longer, words_of, first_length, no_words_left}
+-- A line is its first word, and the words after the space that ends it.
+use Rattle.std.proofs.Common.{◌≡◌, Option, Some, None, sym, is_some, ℕ, suc, ◌+◌, ◌<◌, Bool, true, false, cond, not, eqb, List, [], ◌∷◌, length, take, drop, refl, ap, arith}
+use Rattle.std.specs.List.{position_or_len, before_first, after_first}
+use Rattle.std.proofs.lemmas.Bool.{true≢false}
+use Rattle.std.specs.Option.{option_map_or}
+use Rattle.lines.specs.declared.words.Words.{Words}
+use Rattle.lines.specs.Left.{left}
+use denote.Ref.{Bor}
+use Rattle.lines.specs.Splits.{Word, longer, words_of, no_words_left}
 
-pub length_on : (i : ℕ) (bs : List ℕ) → i < length bs → (get_or bs i 0 ≡ 32 → ⊥) →
-    first_length (drop i bs) ≡ suc (first_length (drop (i + 1) bs))
-unfolding first_length
-length_on i bs h e = at_drop_more first_length bs i 0 h ∙ rw (ne_eqb (get_or bs i 0) 32 e)
+abbrev is_space : ℕ → Bool
+is_space b = eqb b 32
 
-pub length_space : (i : ℕ) (bs : List ℕ) → i < length bs → get_or bs i 0 ≡ 32 → first_length (drop i bs) ≡ 0
-unfolding first_length
-length_space i bs h e = at_drop_more first_length bs i 0 h ∙ rw (eq-eqb (get_or bs i 0) 32 e)
-
-pub length_end : (i : ℕ) (bs : List ℕ) → length bs ≤ i → first_length (drop i bs) ≡ 0
-unfolding first_length
-length_end i bs h = at_drop_all first_length bs i h
-
--- ---- printable characters
-pub text_on : (i : ℕ) (bs : List ℕ) → i < length bs → 32 ≤ get_or bs i 0 → get_or bs i 0 ≤ 126 → is_line_text (drop i bs) ≡ is_line_text (drop (i + 1) bs)
-unfolding is_line_text
-text_on i bs h low high = at_drop_more is_line_text bs i 0 h ∙ rw (le-leb 32 (get_or bs i 0) low, le-leb (get_or bs i 0) 126 high)
-
-pub text_low : (i : ℕ) (bs : List ℕ) → i < length bs → get_or bs i 0 < 32 → is_line_text (drop i bs) ≡ false
-unfolding is_line_text
-text_low i bs h low = at_drop_more is_line_text bs i 0 h ∙ rw (lt-leb 32 (get_or bs i 0) low)
-
-pub text_high : (i : ℕ) (bs : List ℕ) → i < length bs → 126 < get_or bs i 0 → is_line_text (drop i bs) ≡ false
-unfolding is_line_text
-text_high i bs h high =
-    let low : 32 ≤ get_or bs i 0 = omega arith in
-    at_drop_more is_line_text bs i 0 h ∙ rw (le-leb 32 (get_or bs i 0) low, lt-leb (get_or bs i 0) 126 high)
-
-pub text_end : (i : ℕ) (bs : List ℕ) → length bs ≤ i → is_line_text (drop i bs) ≡ true
-unfolding is_line_text
-text_end i bs h = at_drop_all is_line_text bs i h
-
-after : List ℕ → List Word
-after [] = []
-after (c ∷ cs) = words_of cs
-
-split : (bs : List ℕ) → words_of bs ≡ take (first_length bs) bs ∷ after (drop (first_length bs) bs)
-unfolding words_of first_length after
-split [] = refl
-split (c ∷ cs) = go (eqb c 32) (split cs)
+pub words_cut : (bs : List ℕ) → position_or_len is_space bs < length bs → words_of bs ≡ before_first is_space bs ∷ words_of (after_first is_space bs)
+unfolding words_of
+words_cut [] h = absurd (omega (arith, h))
+words_cut (c ∷ cs) h = go (eqb c 32) (words_cut cs) h
   where
-    go : (t : Bool) → words_of cs ≡ take (first_length cs) cs ∷ after (drop (first_length cs) cs) →
-        cond t ([] ∷ words_of cs) (longer c (words_of cs))
-        ≡ take (cond t 0 (suc (first_length cs))) (c ∷ cs) ∷ after (drop (cond t 0 (suc (first_length cs))) (c ∷ cs))
-    go true e = refl
-    go false e = ap (longer c) e
+    n : ℕ
+    n = position_or_len is_space cs
 
-after_is : (e : ℕ) (bs : List ℕ) → after (drop e bs) ≡ cond (leb (e + 1) (length bs)) (words_of (drop (e + 1) bs)) []
-unfolding after
-after_is e bs =
-    ⊎_elim
-    (λ h. at_drop_more after bs e 0 h ∙ rw (le-leb (e + 1) (length bs) (omega arith)))
-    (λ h. at_drop_all after bs e h ∙ rw (lt-leb (e + 1) (length bs) (omega arith)))
-    (cases_lt e (length bs))
+    go : (t : Bool) → (n < length cs → words_of cs ≡ take n cs ∷ words_of (drop (n + 1) cs)) → cond (not t) (1 + n) 0 < length (c ∷ cs) →
+        cond t ([] ∷ words_of cs) (longer c (words_of cs)) ≡ take (cond (not t) (1 + n) 0) (c ∷ cs) ∷ words_of (drop (cond (not t) (1 + n) 0 + 1) (c ∷ cs))
+    go true i l = refl
+    go false i l =
+        let one : 1 + n ≡ suc n = omega arith in
+        let two : suc n + 1 ≡ suc (n + 1) = omega arith in
+        rw (one, two) (ap (longer c) (i (omega arith)))
 
--- from i on, where the first word ends at e
-pub split_at : (i e : ℕ) (bs : List ℕ) → i ≤ length bs → e ≡ i + first_length (drop i bs) →
-    cond (leb i (length bs)) (words_of (drop i bs)) []
-    ≡ take (e - i) (drop i bs) ∷ cond (leb (e + 1) (length bs)) (words_of (drop (e + 1) bs)) []
-split_at i e bs h is =
-    let n : e - i ≡ first_length (drop i bs) = omega arith in
-    let tail : after (drop (first_length (drop i bs)) (drop i bs)) ≡ cond (leb (e + 1) (length bs)) (words_of (drop (e + 1) bs)) [] =
-    ap after (drop-drop (first_length (drop i bs)) i bs ∙ ap (λ (k : ℕ). drop k bs) (sym is)) ∙ after_is e bs in
-    rw (le-leb i (length bs) h) (split (drop i bs) ∙ rw (n, tail))
+pub words_whole : (bs : List ℕ) → position_or_len is_space bs ≡ length bs → words_of bs ≡ bs ∷ []
+unfolding words_of
+words_whole [] h = refl
+words_whole (c ∷ cs) h = go (eqb c 32) (words_whole cs) h
+  where
+    n : ℕ
+    n = position_or_len is_space cs
 
--- past the end, and only there, no word is left
-pub done_is : (i : ℕ) (bs : List ℕ) → ltb (length bs) i ≡ no_words_left (cond (leb i (length bs)) (words_of (drop i bs)) [])
-done_is i bs =
-    ⊎_elim
-    (λ h. rw (lt-ltb (length bs) i h, lt-leb i (length bs) h))
-    (λ h. rw (le-ltb (length bs) i h, le-leb i (length bs) h, split (drop i bs)))
-    (cases_lt (length bs) i)
+    go : (t : Bool) → (n ≡ length cs → words_of cs ≡ cs ∷ []) → cond (not t) (1 + n) 0 ≡ length (c ∷ cs) →
+        cond t ([] ∷ words_of cs) (longer c (words_of cs)) ≡ (c ∷ cs) ∷ []
+    go true i l = absurd (omega (arith, l))
+    go false i l = ap (longer c) (i (omega arith))
+
+some_longer : (c : ℕ) (ws : List Word) → no_words_left (longer c ws) ≡ false
+some_longer c [] = refl
+some_longer c (w ∷ ws) = refl
+
+-- no line has no words
+pub words_some : (bs : List ℕ) → no_words_left (words_of bs) ≡ false
+unfolding words_of
+words_some [] = refl
+words_some (c ∷ cs) = go (eqb c 32)
+  where
+    go : (t : Bool) → no_words_left (cond t ([] ∷ words_of cs) (longer c (words_of cs))) ≡ false
+    go true = refl
+    go false = some_longer c (words_of cs)
+
+-- no word is left where nothing of the line is
+pub done_is : (w : Words) (b : Bool) → is_some w.rest ≡ not b → b ≡ no_words_left (left w)
+done_is w b h = go w.rest b h
+  where
+    go : (o : Option (Bor (List ℕ))) (t : Bool) → is_some o ≡ not t → t ≡ no_words_left (option_map_or (λ text. words_of text.now) o [])
+    go None true h = refl
+    go None false h = absurd (true≢false (sym h))
+    go (Some text) true h = absurd (true≢false h)
+    go (Some text) false h = sym (words_some text.now)

@@ -4,19 +4,25 @@ use Rattle.std.specs.Option.{ok_or}
 use Rattle.std.specs.Str.{bytes_eq}
 use Rattle.model.specs.declared.Refusal.{Refusal}
 use Rattle.model.specs.declared.Refusal.TheVariants.{BadRule, BadForm}
-use Rattle.rules.specs.declared.RuleSets.{RuleSets}
+use Rattle.model.specs.declared.Cell.{Cell}
+use Rattle.model.specs.Cells.{cell_at}
+use Rattle.rules.specs.declared.texts.RuleSets.{RuleSets}
 use Rattle.rules.specs.Texts.{sets_of}
 use Rattle.lines.specs.declared.Command.{Command}
-use Rattle.lines.specs.declared.Command.TheVariants.{Rule, Put, Run, Cell, Count, Row, Bounds, Period}
-use Rattle.lines.specs.Numerals.{into, natural_of, at_most, place_of, flag_of}
+use Rattle.lines.specs.declared.Command.TheVariants.{Rule, Put, Run, Cell as OneCell, Count, Row, Bounds, Period}
+use Rattle.lines.specs.Numerals.{into, up_to, place_of, flag_of}
 use Rattle.lines.specs.Splits.{Word, is_line_text, words_of, first, rest}
 
 -- the next word says x, and k goes on with the words after it
 abbrev pub next : {A : Type 0} → (Word → Option A) → List Word → (A → List Word → Option Command) → Option Command
 next f ws k = into (first f ws) (λ x. k x (rest ws))
 
-abbrev pub up_to : ℕ → Word → Option ℕ
-up_to most w = at_most most (natural_of w)
+-- the next two words as a cell
+abbrev pub cell_first : List Word → Option Cell
+cell_first ws = into (first place_of ws) (λ x. into (first place_of (rest ws)) (λ y. Some (cell_at x y)))
+
+abbrev pub cell_next : List Word → (Cell → List Word → Option Command) → Option Command
+cell_next ws k = into (cell_first ws) (λ c. k c (rest (rest ws)))
 
 -- and no word is left
 abbrev pub last : Command → List Word → Option Command
@@ -24,16 +30,16 @@ last c [] = Some c
 last c (w ∷ ws) = None
 
 abbrev pub put_of : List Word → Option Command
-put_of ws = next place_of ws (λ x us. next place_of us (λ y vs. next flag_of vs (λ lives. last (Put x y lives))))
+put_of ws = cell_next ws (λ c us. next flag_of us (λ lives. last (Put c lives)))
 
 abbrev pub run_of : List Word → Option Command
 run_of ws = next (up_to (2 ^ 64 - 1)) ws (λ n. last (Run n))
 
 abbrev pub cell_of : List Word → Option Command
-cell_of ws = next place_of ws (λ x us. next place_of us (λ y. last (Cell x y)))
+cell_of ws = cell_next ws (λ c. last (OneCell c))
 
 abbrev pub row_of : List Word → Option Command
-row_of ws = next place_of ws (λ x us. next place_of us (λ y vs. next (up_to (2 ^ 20)) vs (λ n. last (Row x y n))))
+row_of ws = cell_next ws (λ c us. next (up_to (2 ^ 20)) us (λ n. last (Row c n)))
 
 abbrev pub period_of : List Word → Option Command
 period_of ws = next (up_to (2 ^ 16 - 1)) ws (λ n. last (Period n))
@@ -51,7 +57,7 @@ plain_of verb ws =
 
 abbrev pub named : Option RuleSets → Result Command Refusal
 named None = Err BadRule
-named (Some r) = Ok (Rule r.born r.stays)
+named (Some r) = Ok (Rule r)
 
 -- one word that is not empty
 abbrev pub rule_words : List Word → Result Command Refusal

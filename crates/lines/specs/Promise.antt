@@ -5,8 +5,10 @@ use Rattle.std.specs.Fmt.{signed_decimal}
 use Rattle.std.specs.List.{AllByRecursion}
 use Rattle.model.specs.declared.Refusal.{Refusal}
 use Rattle.model.specs.declared.Refusal.TheVariants.{BadRule, BadForm}
+use Rattle.model.specs.declared.Cell.{Cell}
+use Rattle.model.specs.Cells.{cell_at}
 use Rattle.lines.specs.declared.Command.{Command}
-use Rattle.lines.specs.declared.Command.TheVariants.{Rule, Put, Run, Cell, Count, Row, Bounds, Period}
+use Rattle.lines.specs.declared.Command.TheVariants.{Rule, Put, Run, Cell as OneCell, Count, Row, Bounds, Period}
 use Rattle.lines.specs.Numerals.{natural_of, place_of}
 use Rattle.lines.specs.Splits.{Word, words_of}
 use Rattle.lines.specs.Commands.{command_of}
@@ -27,7 +29,7 @@ NumbersRight = ((n : ℕ) → n < 2 ^ 64 → natural_of (decimal n) ≡ Some n) 
 
 -- no row that is asked for is longer than this
 abbrev pub RowsShort : Type 0
-RowsShort = (line : List ℕ) (x y : ℤ) (n : ℕ) → command_of line ≡ Ok (Row x y n) → n ≤ 2 ^ 20
+RowsShort = (line : List ℕ) (c : Cell) (n : ℕ) → command_of line ≡ Ok (Row c n) → n ≤ 2 ^ 20
 
 abbrev pub says : List ℕ → Command → Type 0
 says line c = command_of line ≡ Ok c
@@ -37,11 +39,11 @@ refused_as line e = command_of line ≡ Err e
 
 abbrev pub Examples : Type 0
 Examples =
-    says (codes "rule b3s23") (Rule 8 12) × says (codes "rule b0s") (Rule 1 0) × says (codes "rule bs") (Rule 0 0)
-    × says (codes "put -3 007 1") (Put (negsuc 2) (pos 7) true) × says (codes "put -0 0 0") (Put (pos 0) (pos 0) false)
+    says (codes "rule b3s23") (Rule (record { born = 8; stays = 12 })) × says (codes "rule b0s") (Rule (record { born = 1; stays = 0 })) × says (codes "rule bs") (Rule (record { born = 0; stays = 0 }))
+    × says (codes "put -3 007 1") (Put (cell_at (negsuc 2) (pos 7)) true) × says (codes "put -0 0 0") (Put (cell_at (pos 0) (pos 0)) false)
     × says (codes "run 18446744073709551615") (Run 18446744073709551615)
-    × says (codes "cell -9223372036854775808 9223372036854775807") (Cell (negsuc 9223372036854775807) (pos 9223372036854775807))
-    × says (codes "count") Count × says (codes "row 1 2 1048576") (Row (pos 1) (pos 2) 1048576)
+    × says (codes "cell -9223372036854775808 9223372036854775807") (OneCell (cell_at (negsuc 9223372036854775807) (pos 9223372036854775807)))
+    × says (codes "count") Count × says (codes "row 1 2 1048576") (Row (cell_at (pos 1) (pos 2)) 1048576)
     × says (codes "box") Bounds × says (codes "period 65535") (Period 65535)
 
 abbrev pub Refusals : Type 0

@@ -1,10 +1,10 @@
 -- The characters of a line, and its words: what stands before, between and after its spaces.
-use Rattle.std.specs.Prelude.{ℕ, suc, Bool, true, false, cond, ◌&&◌, List, [], ◌∷◌, None, Option, ◌==◌, nat_le}
+use Rattle.std.specs.Prelude.{ℕ, Bool, true, false, cond, ◌&&◌, List, [], ◌∷◌, None, Option, ◌==◌, nat_le}
+use Rattle.std.specs.List.{list_all}
 
 -- only printable characters of ASCII
-unfoldable pub is_line_text : List ℕ → Bool
-is_line_text [] = true
-is_line_text (c ∷ cs) = (nat_le 32 c && nat_le c 126) && is_line_text cs
+abbrev pub is_line_text : List ℕ → Bool
+is_line_text = list_all (λ c. nat_le 32 c && nat_le c 126)
 
 abbrev pub Word : Type 0
 Word = List ℕ
@@ -17,11 +17,6 @@ longer c (w ∷ ws) = (c ∷ w) ∷ ws
 unfoldable pub words_of : List ℕ → List Word
 words_of [] = [] ∷ []
 words_of (c ∷ cs) = cond (c == 32) ([] ∷ words_of cs) (longer c (words_of cs))
-
--- how many bytes stand before the first space
-unfoldable pub first_length : List ℕ → ℕ
-first_length [] = 0
-first_length (c ∷ cs) = cond (c == 32) 0 (suc (first_length cs))
 
 -- what f reads in the next word, where there is one
 abbrev pub first : {A : Type 0} → (Word → Option A) → List Word → Option A

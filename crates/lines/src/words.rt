@@ -1,56 +1,52 @@
 // The words of a line, one after the other.
-ghost use Rattle.std.specs.Prelude.{◌≡◌, ◌+◌, ◌≤◌, [], ◌∷◌, length, drop, MatchOption};
-ghost use Rattle.lines.specs.Splits.{words_of, first_length, first, rest, no_words_left};
+ghost use Rattle.std.specs.Prelude.{◌≡◌, ◌-◌, ◌^◌, OnSome};
+ghost use Rattle.std.specs.Iterator.{YieldsFirstRef, item_count};
+ghost use Rattle.lines.specs.Splits.{words_of, first, rest, no_words_left};
+ghost use Rattle.lines.specs.Commands.{cell_first};
 ghost use Rattle.lines.specs.Left.{left};
-ghost use Rattle.lines.specs.Numerals.{natural_of, at_most, place_of, flag_of};
+ghost use Rattle.lines.specs.Numerals.{up_to, place_of, flag_of, IsParsed};
 
-use super::numerals;
+use model::Cell;
+use std::str::FromStr;
 
-const SPACE: u8 = b' ';
-
-// The words of `text` from `at` on. Past the end of the text there is none.
-#[derive(Clone, Copy)]
+// What is left of a line: nothing once its last word is taken.
+#[derive(Drop)]
 pub struct Words<'a> {
-    text: &'a [u8],
-    at: usize,
+    rest: Option<&'a str>,
 }
 
 impl<'a> Words<'a> {
-    pub fn new(text: &'a [u8]) -> Words<'a>
+    pub fn new(text: &'a str) -> Words<'a>
         ensures { left result ≡ words_of text.now }
     {
-        Words { text, at: 0 }
+        Words { rest: Some(text) }
     }
 
-    // Takes the next word, up to a space or the end of the line.
-    pub fn next(&mut self) -> Option<&'a [u8]>
-        ensures { MatchOption result ((left self.old ≡ []) × (left self.new ≡ [])) (λ w. left self.old ≡ w.now ∷ left self.new) }
-    {
-        if self.at > self.text.len() {
-            return None;
-        }
-        let from = self.at;
-        let end = word_end(self.text, from);
-        self.at = end + 1;
-        Some(&self.text[from..end])
-    }
-
-    // The next word as a number of at most `most`.
-    pub fn natural(&mut self, most: u64) -> Option<u64>
-        ensures is { result ≡ first (λ w. at_most most (natural_of w)) (left self.old) }
+    // The next word as a number without a sign.
+    pub fn natural(&mut self) -> Option<u64>
+        ensures is { result ≡ first (up_to (2 ^ 64 - 1)) (left self.old) }
         ensures taken { left self.new ≡ rest (left self.old) }
     {
-        let word = self.next()?;
-        numerals::natural(word, most)
+        number(self.next()?)
+    }
+
+    // The next two words as a cell.
+    pub fn cell(&mut self) -> Option<Cell>
+        ensures is { result ≡ cell_first (left self.old) }
+        ensures taken { OnSome result (left self.new ≡ rest (rest (left self.old))) }
+    {
+        let x = self.place()?;
+        let y = self.place()?;
+        Some(Cell { x, y })
     }
 
     // The next word as one of the two numbers of a cell.
-    pub fn place(&mut self) -> Option<i64>
+    fn place(&mut self) -> Option<i64>
         ensures is { result ≡ first place_of (left self.old) }
         ensures taken { left self.new ≡ rest (left self.old) }
     {
         let word = self.next()?;
-        numerals::place(word)
+        number(word)
     }
 
     // The next word as `0` or `1`.
@@ -58,25 +54,52 @@ impl<'a> Words<'a> {
         ensures is { result ≡ first flag_of (left self.old) }
         ensures taken { left self.new ≡ rest (left self.old) }
     {
-        let word = self.next()?;
-        numerals::flag(word)
+        match self.next()? {
+            "0" => Some(false),
+            "1" => Some(true),
+            _ => None,
+        }
     }
 
     pub fn done(&self) -> bool
         ensures { result ≡ no_words_left (left self.now) }
     {
-        self.at > self.text.len()
+        self.rest.is_none()
     }
 }
 
-fn word_end(text: &[u8], from: usize) -> usize
-    requires { from ≤ length text.now }
-    ensures is { result ≡ from + first_length (drop from text.now) }
-    ensures within { result ≤ length text.now }
-{
-    let mut end = from;
-    while end < text.len() && text[end] != SPACE {
-        end += 1;
+impl<'a> Iterator for Words<'a> {
+    type Item = &'a str;
+
+    ghost next_gives = { YieldsFirstRef left };
+
+    ghost remaining = { item_count left };
+
+    // Takes the next word, up to a space or the end of the line.
+    fn next(&mut self) -> Option<&'a str> {
+        let text = self.rest?;
+        match text.split_once(' ') {
+            Some((word, rest)) => {
+                self.rest = Some(rest);
+                Some(word)
+            }
+            None => {
+                self.rest = None;
+                Some(text)
+            }
+        }
     }
-    end
+}
+
+// As Rust reads a number, but with no `+` in front.
+fn number<N: FromStr>(word: &str) -> Option<N>
+where
+    N::Err: Drop,
+    ensures { IsParsed N.from_str_gives word.now result }
+{
+    if word.starts_with('+') {
+        None
+    } else {
+        word.parse().ok()
+    }
 }

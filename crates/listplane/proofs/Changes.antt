@@ -1,7 +1,8 @@
 -- A cell put or erased, and the list that is then there.
 use Rattle.std.proofs.Common.{◌≡◌, ℕ, suc, ◌^◌, ◌≤◌, Bool, true, false, cond, not, T, List, [], ◌∷◌, length, ℤ, MatchBool, sym, refl, ap, ◌∙◌, subst, inl, arith}
 use mathlib.Core.Bool.{beq}
-use Rattle.model.specs.Cells.{Cell, cell_at, same_cell, before, in_order, lives, put}
+use Rattle.model.specs.declared.Cell.{Cell}
+use Rattle.model.specs.Cells.{cell_at, same_cell, before, in_order, lives, put}
 use Rattle.model.specs.Lists.{nexts}
 use Rattle.model.specs.World.{World, with_cell, far, size, edge, farthest, most_cells, capped, Crowded, roomy}
 use Rattle.model.proofs.Order.{if_so, lists_same, same_cell_out, lives_cell, lives_tail}
@@ -10,7 +11,7 @@ use Rattle.model.proofs.Reach.{far_in, far_out}
 use Rattle.lent.specs.declared.Stretch.{Stretch}
 use Rattle.lent.specs.Stretches.{to_z, tab, entry, cells_in}
 use Rattle.lent.proofs.Tab.{tab_length}
-use Rattle.cells.specs.Places.{Holds, cell_of_words}
+use Rattle.cells.specs.Places.{Holds}
 use Rattle.runs.specs.Stages.{Placed, Staged}
 
 near_size : (x y : ℤ) → T (not (far x y)) → (size x ≤ edge) × (size y ≤ edge)
@@ -104,11 +105,8 @@ other_way P true false e w = w
 other_way P false true e w = w
 other_way P false false e w = let z : ◌≡◌ {A = ℕ} 0 1 = cc in absurd (omega arith)
 
-pub not_far : (b : Bool) (x y : ℤ) → b ≡ far x y → b ≡ false → T (not (far x y))
-not_far b x y e f = subst (λ (z : Bool). T (not z)) (sym f ∙ e) tt
-
 -- the cell that stands at its place
-pub held_cell : (m : List ℕ) (s : Stretch) (i row col : ℕ) → Holds m s i row col → entry m s.at i ≡ cell_of_words row col
+pub held_cell : (m : List ℕ) (s : Stretch) (i row col : ℕ) → Holds m s i row col → entry m s.at i ≡ cell_at (to_z col) (to_z row)
 held_cell m s i row col (l, er, ec) = λ t. cell_at (to_z (ec t)) (to_z (er t))
 
 pub capped_few : (n : ℕ) → n ≤ most_cells → n ≡ capped n

@@ -1,6 +1,5 @@
 -- The plane that a list of cells in lent memory stands for.
-use Rattle.std.specs.Prelude.{ℕ, T, List}
-use Rattle.model.specs.Rules.{good_rule}
+use Rattle.std.specs.Prelude.{ℕ, List}
 use Rattle.model.specs.World.{World, world_of}
 use Rattle.rules.specs.Laws.{law}
 use Rattle.lent.specs.Stretches.{cells_in}
@@ -10,7 +9,6 @@ use Rattle.listplane.specs.declared.ListPlane.{ListPlane}
 abbrev pub world_on : ListPlane → List ℕ → World
 world_on f m = world_of (law f.rule) (cells_in m f.list)
 
--- the list is in the memory, and the rule is one
-pub record Good (f : ListPlane) (m : List ℕ) : Type 0 where
-  pub staged : Staged m f.list
-  pub rule : T (good_rule (law f.rule))
+-- the list is in the memory
+abbrev pub Good : ListPlane → List ℕ → Type 0
+Good f m = Staged m f.list

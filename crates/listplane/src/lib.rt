@@ -5,16 +5,18 @@ ghost use Rattle.std.specs.Prelude.{◌≡◌, ◌<◌, not, T, MatchBool};
 ghost use Rattle.model.specs.Cells.{put};
 ghost use Rattle.model.specs.World.{far, most_cells};
 ghost use Rattle.lent.specs.Mem.{mem, Same};
-ghost use Rattle.lent.specs.Stretches.{cells_in, to_z};
-ghost use Rattle.cells.specs.Places.{Place, Holds, cell_of_words};
+ghost use Rattle.lent.specs.Stretches.{cells_in, Listed};
+ghost use Rattle.lent.specs.Lists.{words_of, stretch_of};
+ghost use Rattle.lent.specs.Entries.{cell_of};
+ghost use Rattle.cells.specs.Places.{Place, Holds};
 ghost use Rattle.runs.specs.Stages.{Staged};
 ghost use Rattle.listplane.specs.Good.{world_on, Good};
 
 use calls::Field;
 use cells::{find, holds, insert, is_far, lives_at, remove};
-use lent::{MOST_CELLS, Stretch, View, Words, to_word};
+use lent::{CellList, Entry, MOST_CELLS, Stretch, View, Words};
 use measure::bounds;
-use model::{Bounds, Period, Refusal};
+use model::{Bounds, Cell, Period, Refusal};
 use rules::Rule;
 use runs::{period_list, run_list};
 
@@ -29,28 +31,31 @@ pub struct ListPlane {
 }
 
 // Puts a cell that isn't in the list, or erases one that is, at its place i.
-fn change(words: &mut Words, s: Stretch, i: usize, row: u64, column: u64, lives: bool) -> Stretch
+fn change(words: &mut Words, s: Stretch, i: usize, entry: Entry, lives: bool) -> Stretch
     requires staged { Staged (mem words.old) s }
-    requires place { Place (mem words.old) s row column i }
-    requires near { T (not (far (to_z column) (to_z row))) }
-    requires other { MatchBool lives (Holds (mem words.old) s i row column → ⊥) (Holds (mem words.old) s i row column) }
+    requires place { Place (mem words.old) s entry.row entry.column i }
+    requires near { T (not (far (cell_of entry).x (cell_of entry).y)) }
+    requires other { MatchBool lives (Holds (mem words.old) s i entry.row entry.column → ⊥) (Holds (mem words.old) s i entry.row entry.column) }
     requires room { T lives → s.len < most_cells }
     ensures same { Same words.old words.new }
     ensures staged { Staged (mem words.new) result }
-    ensures cells { cells_in (mem words.new) result ≡ put (cell_of_words row column) lives (cells_in (mem words.old) s) }
+    ensures cells { cells_in (mem words.new) result ≡ put (cell_of entry) lives (cells_in (mem words.old) s) }
 {
     if lives {
-        insert(words, s, i, row, column);
-        Stretch {
-            at: s.at,
-            len: s.len + 1,
-        }
+        insert(words, s, i, entry)
     } else {
-        remove(words, s, i);
-        Stretch {
-            at: s.at,
-            len: s.len - 1,
-        }
+        remove(words, s, i)
+    }
+}
+
+impl ListPlane {
+    // Its list, to read it.
+    fn cells<'a>(&self, mem: &'a [u64]) -> CellList<'a>
+        requires { Listed mem.now self.now.list }
+        ensures words { words_of result ≡ mem.now }
+        ensures stretch { stretch_of result ≡ self.now.list }
+    {
+        CellList::new(View::new(mem), self.list)
     }
 }
 
@@ -59,10 +64,10 @@ impl Field for ListPlane {
 
     ghost good = { Good };
 
-    ghost sound = { λ f m g. (g.rule, g.staged.listed.ordered) };
+    ghost sound = { λ f m g. (f.rule.good, g.listed.ordered) };
 
     fn room(words: usize) -> Result<(), Refusal> {
-        if words >= FEWEST_WORDS && words <= MOST_WORDS {
+        if (FEWEST_WORDS..=MOST_WORDS).contains(&words) {
             Ok(())
         } else {
             Err(Refusal::BadMemory)
@@ -81,50 +86,44 @@ impl Field for ListPlane {
         Ok(())
     }
 
-    fn put(&mut self, mem: &mut [u64], x: i64, y: i64, lives: bool) -> Result<(), Refusal> {
-        if is_far(x, y) {
+    fn put(&mut self, mem: &mut [u64], at: Cell, lives: bool) -> Result<(), Refusal> {
+        if is_far(at) {
             return Err(Refusal::TooFar);
         }
-        let row = to_word(y);
-        let column = to_word(x);
-        let i = find(View::new(mem), self.list, row, column);
-        let there = holds(View::new(mem), self.list, i, row, column);
-        if there == lives {
+        let entry = Entry::from_cell(at);
+        let i = find(self.cells(mem), entry);
+        if holds(self.cells(mem), i, entry) == lives {
             return Ok(());
         }
         if lives && self.list.len == MOST_CELLS {
             return Err(Refusal::NoRoom);
         }
-        let mut words = Words::new(mem);
-        self.list = change(&mut words, self.list, i, row, column, lives);
+        self.list = change(&mut Words::new(mem), self.list, i, entry, lives);
         Ok(())
     }
 
     fn run(&mut self, mem: &mut [u64], n: u64) -> Result<(), Refusal> {
-        let mut words = Words::new(mem);
-        self.list = run_list(&mut words, self.rule, self.list, n)?;
+        self.list = run_list(&mut Words::new(mem), self.rule, self.list, n)?;
         Ok(())
     }
 
-    fn cell(&self, mem: &[u64], x: i64, y: i64) -> bool {
-        lives_at(View::new(mem), self.list, x, y)
+    fn cell(&self, mem: &[u64], at: Cell) -> bool {
+        lives_at(self.cells(mem), at)
     }
 
     fn count(&self, mem: &[u64]) -> u64 {
         self.list.len as u64
     }
 
-    fn row(&self, mem: &[u64], x: i64, y: i64, out: &mut [u8]) {
-        cells::row(View::new(mem), self.list, x, y, out);
+    fn row(&self, mem: &[u64], from: Cell, out: &mut [u8]) {
+        cells::row(self.cells(mem), from, out);
     }
 
     fn bounds(&mut self, mem: &mut [u64]) -> Option<Bounds> {
-        let words = Words::new(mem);
-        bounds(&words, self.list)
+        bounds(self.cells(mem))
     }
 
     fn period(&mut self, mem: &mut [u64], bound: u16) -> Result<Option<Period>, Refusal> {
-        let mut words = Words::new(mem);
-        period_list(&mut words, self.rule, self.list, bound)
+        period_list(&mut Words::new(mem), self.rule, self.list, bound)
     }
 }

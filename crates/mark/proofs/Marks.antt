@@ -5,9 +5,14 @@ use mathlib.Core.Logic.{◌≢◌}
 use Prim.Native.Nat.{ℕ, suc, ◌+◌, ◌-◌, ◌*◌, ◌%◌, ◌<◌, ◌≤◌}
 use native.Mathlib.Omega.{arith}
 use native.Mathlib.Decide.{ℕ_discrete}
-use lib.ListN.{length}
+use lib.ListN.{length, take, get_or}
 use Rattle.nodes.specs.declared.Node.{Node}
-use Rattle.nodes.specs.Nodes.{Table, Valid, Kids, Sound, first, second}
+use Rattle.std.specs.List.{All}
+use Rattle.std.proofs.lemmas.List.Elements.{All-more}
+use Rattle.model.specs.Quarters.{each_of}
+use Rattle.model.proofs.Four.{all_each}
+use Rattle.model.specs.declared.quarters.Quarters.{Quarters}
+use Rattle.nodes.specs.Nodes.{Table, Valid, Sound, quarters_of}
 use Rattle.nodes.specs.Memory.{base, word, tag, view, Marked, held_in}
 use Rattle.nodes.specs.Marking.{KidsMarked, ClosedAt, MarksAt}
 use Rattle.nodes.proofs.Memory.{put, put_here, put_field, put_slot, put_front, front_refl, front_trans, view_same, view_state}
@@ -112,9 +117,11 @@ held_more {v} {u = u} {i = i} p e m more k l q h d j b =
       | no z ↦ (marks_at e more).more _ (h j (omega arith))
     ]
 
--- the node of a square that is no leaf
-pub kids_of : {n : ℕ} {v : Table} {d i : ℕ} {x : Node} → 0 < d → Sound n v → Valid n v d i → x ≡ v i → Kids n v (d - 1) x
-kids_of {n} {v} {d} {i} h s p e = subst (λ (y : Node). Kids n v (d - 1) y) (sym e) (s.kids i (d - 1) (record { here = p.here; deep = let z = p.deep in omega arith }))
+-- the quarters of a square that is no leaf
+pub kids_each : {n d i : ℕ} {v : Table} {x : Node} {q : Quarters ℕ} {l : List ℕ} → l ≡ each_of q → q ≡ quarters_of x → x ≡ v i → 0 < d → Sound n v → Valid n v d i → All (Valid n v (d - 1)) l
+kids_each {n} {d} {i} {v} e f g h s p =
+    let k = s.kids i (d - 1) (record { here = p.here; deep = let z = p.deep in omega arith }) in
+    subst (All (Valid n v (d - 1))) (sym (e ∙ ap each_of (f ∙ ap quarters_of g))) (all_each (Valid n v (d - 1)) (quarters_of (v i)) k.knw k.kne k.ksw k.kse)
 
 -- marks were set, all quarters of square i among them
 pub record Ready (v u : Store) (i : ℕ) : Type 0 where
@@ -126,17 +133,20 @@ pub record Ready (v u : Store) (i : ℕ) : Type 0 where
 pub ready_leaf : {v : Store} {d i : ℕ} → d ≤ 0 → Has v d i → Closed v → Ready v v i
 ready_leaf {v} l h c = record { fixed = fixed_refl v; closed = c; marks = marks_refl v.at (mem v); kids = λ p b. absurd (let y = h.deep in let z = b.deep in omega arith) }
 
-pub ready_pairs : {v w u : Store} {x : Node} {i : ℕ} → x ≡ table v i →
-    Fixed v w → MarksAt v.at (mem v) (mem w) → Marked v.at (mem w) (first x.upper) × Marked v.at (mem w) (second x.upper) →
-    Fixed w u → MarksAt w.at (mem w) (mem u) → Marked w.at (mem u) (first x.lower) × Marked w.at (mem u) (second x.lower) → Closed u → Ready v u i
-ready_pairs {v} {w} {u} {x} {i} e f m p g l q c =
-    let more = marks_at f l in let low = marked_at f (mem u) in
+pub ready_each : {v u : Store} {i : ℕ} {x : Node} {q : Quarters ℕ} {l : List ℕ} → l ≡ each_of q → q ≡ quarters_of x → x ≡ table v i →
+    Fixed v u → Closed u → MarksAt v.at (mem v) (mem u) → All (Marked v.at (mem u)) l → Ready v u i
+ready_each {v} {u} {i} e f g fixed c m d =
+    let all : All (Marked v.at (mem u)) (each_of (quarters_of (table v i))) = subst (All (Marked v.at (mem u))) (e ∙ ap each_of (f ∙ ap quarters_of g)) d in
     record {
-      fixed = fixed_trans f g;
+      fixed = fixed;
       closed = c;
-      marks = marks_trans m more;
-      kids = λ d b. subst (λ (y : Node). KidsMarked v.at (mem u) y) e (record { mnw = more.more _ p.0; mne = more.more _ p.1; msw = low _ q.0; mse = low _ q.1 });
+      marks = m;
+      kids = λ p b. record { mnw = all 0 0 (omega arith); mne = all 1 0 (omega arith); msw = all 2 0 (omega arith); mse = all 3 0 (omega arith) };
     }
+
+-- one square more of several
+pub each_more : {v w : Store} {u : List ℕ} (l : List ℕ) {k : ℕ} → Fixed v w → MarksAt w.at (mem w) u → k < length l → All (Marked v.at (mem w)) (take k l) → Marked w.at u (get_or l k 0) → All (Marked v.at u) (take (k + 1) l)
+each_more {v} {u = u} l {k = k} e more h a d = All-more (Marked v.at u) l k 0 h (λ j z b. (marks_at e more).more _ (a j z b)) (marked_at e u _ d)
 
 -- square i was marked, and all that it is made of
 pub record Done (v w : Store) (i : ℕ) : Type 0 where
@@ -145,13 +155,13 @@ pub record Done (v w : Store) (i : ℕ) : Type 0 where
   pub marks : MarksAt v.at (mem v) (mem w)
   pub done : Marked v.at (mem w) i
 
-pub mark_last : (v u w : Store) (d i s : ℕ) → Laid v → Has v d i → s ≡ tag v.at (mem v) i → s < 128 → Ready v u i → mem w ≡ put u.at (mem u) i 0 (s + 128) → Fixed u w → Done v w i
-mark_last v u w d i s laid has e l r f g =
-    let a = v.at in let n = v.slots in let sh = r.marks.shown in
-    let after : mem w ≡ put a (mem u) i 0 (s + 128) = f ∙ ap (λ x. put x (mem u) i 0 (s + 128)) r.fixed.at in
+pub mark_last : (v u w : Store) (d i : ℕ) → Laid v → Has v d i → Ready v u i → mem w ≡ put u.at (mem u) i 0 ((table u i).state + 128) → Fixed u w → Done v w i
+mark_last v u w d i laid has r f g =
+    let a = v.at in let n = v.slots in let sh = r.marks.shown in let s = (view a (mem u) i).state in
+    let after : mem w ≡ put a (mem u) i 0 (s + 128) = f ∙ ap (λ x. put x (mem u) i 0 ((view x (mem u) i).state + 128)) r.fixed.at in
     let in_range : base a + 7 * i < length (mem u) = (let x = laid.fits in let y = has.here in let z = r.fixed.long in omega arith) in
-    let state : s ≡ (view a (mem u) i).state = (let x = view_state a (mem v) i in let y = ap (λ (t : Table). (t i).state) sh in omega arith) in
-    let marks = put_marks a i s (mem u) in_range l state in
+    let small : s < 128 = (let x = view_state a (mem u) i in omega arith) in
+    let marks = put_marks a i s (mem u) in_range small refl in
     let closed =
     put_closed a n i s d (mem u) marks (transport (λ t. ClosedAt (r.fixed.at t) (r.fixed.slots t) (mem u)) r.closed) (subst (λ (t : Table). Valid n t d i) (sym sh) has)
     (λ p b. subst (λ (t : Table). KidsMarked a (mem u) (t i)) (sym sh) (r.kids p (subst (λ (t : Table). Valid n t (suc p) i) sh b))) in

@@ -1,47 +1,42 @@
 -- The box around a list, cell by cell from its end.
-use Rattle.std.proofs.Common.{◌≡◌, ℕ, suc, ◌-◌, ◌*◌, ◌^◌, ◌<◌, ◌≤◌, min, max, List, Some, None, sym, ap, ◌∙◌, arith}
+use Rattle.std.proofs.Common.{◌≡◌, ℕ, suc, ◌-◌, ◌<◌, ◌≤◌, List, [], Some, None, ℤ, FitsSigned, w64, to_z, of_z, sym, ◌∙◌, arith}
 use borrow.Author.Differences.{ints}
+use mir.ValLaws.{to_z-of_z}
 use Rattle.model.specs.declared.Bounds.{Bounds}
-use Rattle.model.specs.Cells.{Cell, cell_at, lesser, greater, box_of, bounds_of}
+use Rattle.model.specs.Cells.{lesser, greater, box_of, bounds_of}
+use Rattle.std.specs.Int.{int_min, int_max}
 use Rattle.lent.specs.declared.Stretch.{Stretch}
-use Rattle.lent.specs.Stretches.{to_z, tab, entry, row_at, col_at, cells_in}
-use Rattle.measure.specs.declared.Frame.{Frame}
-use Rattle.measure.specs.Frames.{boxed, box_from, around, widened, Inside}
+use Rattle.lent.specs.Stretches.{tab, entry, cells_in}
+use Rattle.measure.specs.Boxes.{widened}
 
-lesser_word : (a b : ℕ) → to_z (min a b) ≡ lesser (to_z b) (to_z a)
-lesser_word a b = grind (arith, ints)
+-- the box around the first cell and those from the i-th on
+abbrev pub box_from : List ℕ → Stretch → ℕ → Bounds
+box_from m s i = box_of (entry m s.at 0) (tab (entry m s.at) i (s.len - i))
 
-greater_word : (a b : ℕ) → to_z (max a b) ≡ greater (to_z b) (to_z a)
-greater_word a b = grind (arith, ints)
+lesser_min : (a b : ℤ) → int_min a b ≡ lesser b a
+lesser_min a b = grind (arith, ints)
 
-joined : Cell → Bounds → Bounds
-joined d k = record { left = lesser d.x k.left; top = lesser d.y k.top; right = greater d.x k.right; bottom = greater d.y k.bottom }
+greater_max : (a b : ℤ) → int_max a b ≡ greater b a
+greater_max a b = grind (arith, ints)
 
-pub box_first : (m : List ℕ) (s : Stretch) (row col : ℕ) → row ≡ row_at m s.at 0 → col ≡ col_at m s.at 0 → boxed (around row col) ≡ box_from m s s.len
-unfolding tab box_of
-box_first m s row col y x =
-    let z : 0 ≡ s.len - s.len = omega arith in
-    (λ t. boxed (around (y t) (x t))) ∙ (λ t. box_of (entry m s.at 0) (tab (entry m s.at) s.len (z t)))
+-- and of coordinates in the machine
+pub low_side : (r a b : ℤ) → FitsSigned w64 r → FitsSigned w64 a → FitsSigned w64 b → r ≡ int_min (to_z w64 (of_z w64 a)) (to_z w64 (of_z w64 b)) → to_z w64 (of_z w64 r) ≡ lesser b a
+low_side r a b f g h e = to_z-of_z w64 r f ∙ e ∙ (λ i. int_min (to_z-of_z w64 a g i) (to_z-of_z w64 b h i)) ∙ lesser_min a b
 
-box_join : (m : List ℕ) (s : Stretch) (i : ℕ) → 0 < i → i ≤ s.len → box_from m s (i - 1) ≡ joined (entry m s.at (i - 1)) (box_from m s i)
-unfolding tab box_of joined
-box_join m s i l h =
-    let z : s.len - (i - 1) ≡ suc (s.len - i) = omega arith in let w : suc (i - 1) ≡ i = omega arith in
-    (λ t. box_of (entry m s.at 0) (tab (entry m s.at) (i - 1) (z t))) ∙
-    (λ t. joined (entry m s.at (i - 1)) (box_of (entry m s.at 0) (tab (entry m s.at) (w t) (s.len - i))))
+pub high_side : (r a b : ℤ) → FitsSigned w64 r → FitsSigned w64 a → FitsSigned w64 b → r ≡ int_max (to_z w64 (of_z w64 a)) (to_z w64 (of_z w64 b)) → to_z w64 (of_z w64 r) ≡ greater b a
+high_side r a b f g h e = to_z-of_z w64 r f ∙ e ∙ (λ i. int_max (to_z-of_z w64 a g i) (to_z-of_z w64 b h i)) ∙ greater_max a b
+
+pub box_first : (m : List ℕ) (s : Stretch) → box_of (entry m s.at 0) [] ≡ box_from m s s.len
+unfolding tab
+box_first m s = let z : 0 ≡ s.len - s.len = omega arith in λ t. box_of (entry m s.at 0) (tab (entry m s.at) s.len (z t))
 
 -- one cell more in front
-pub box_more : (m : List ℕ) (s : Stretch) (f g : Frame) (i row col : ℕ) → 0 < i → i ≤ s.len → boxed f ≡ box_from m s i →
-    row ≡ row_at m s.at (i - 1) → col ≡ col_at m s.at (i - 1) → g ≡ widened f row col → boxed g ≡ box_from m s (i - 1)
-unfolding joined
-box_more m s f g i row col l h e y x w =
-    let a = lesser_word f.left col in let b = lesser_word f.top row in let c = greater_word f.right col in let d = greater_word f.bottom row in
-    ap boxed w ∙ (λ t. record { left = a t; top = b t; right = c t; bottom = d t }) ∙ (λ t. joined (cell_at (to_z (x t)) (to_z (y t))) (e t)) ∙ sym (box_join m s i l h)
-
-pub inside_more : (f g : Frame) (row col : ℕ) → Inside f → row ≤ 3 * 2 ^ 60 → col ≤ 3 * 2 ^ 60 → g ≡ widened f row col → Inside g
-inside_more f g row col h y x w =
-    let l = ap (λ (z : Frame). z.left) w in let t = ap (λ (z : Frame). z.top) w in let r = ap (λ (z : Frame). z.right) w in let b = ap (λ (z : Frame). z.bottom) w in
-    record { left = omega arith; top = omega arith; right = omega arith; bottom = omega arith }
+pub box_join : (m : List ℕ) (s : Stretch) (i : ℕ) → 0 < i → i ≤ s.len → widened (box_from m s i) (entry m s.at (i - 1)) ≡ box_from m s (i - 1)
+unfolding tab box_of
+box_join m s i l h =
+    let z : s.len - (i - 1) ≡ suc (s.len - i) = omega arith in let w : suc (i - 1) ≡ i = omega arith in
+    sym ((λ t. box_of (entry m s.at 0) (tab (entry m s.at) (i - 1) (z t))) ∙
+    (λ t. widened (box_of (entry m s.at 0) (tab (entry m s.at) (w t) (s.len - i))) (entry m s.at (i - 1))))
 
 pub bounds_empty : (m : List ℕ) (s : Stretch) → s.len ≡ 0 → None ≡ bounds_of (cells_in m s)
 unfolding tab

@@ -1,6 +1,6 @@
 -- The farthest coordinate of a list, cell by cell from its end.
 use Rattle.std.proofs.Common.{◌≡◌, ℕ, suc, ◌+◌, ◌-◌, ◌<◌, ◌≤◌, max, true, cond, ltb, leb, List, sym, ◌∙◌, arith}
-use Rattle.model.specs.Cells.{Cell}
+use Rattle.model.specs.declared.Cell.{Cell}
 use Rattle.model.specs.World.{size, farthest, reach, edge}
 use Rattle.lent.specs.declared.Stretch.{Stretch}
 use Rattle.lent.specs.Stretches.{tab, entry, cells_in}
@@ -9,9 +9,9 @@ use Rattle.measure.specs.Sizes.{outness}
 larger : (a b m : ℕ) → cond (ltb m (cond (ltb a b) b a)) (cond (ltb a b) b a) m ≡ max m (max a b)
 larger a b m = grind arith
 
-pub far_none : (f : ℕ → Cell) (n : ℕ) → 0 ≡ farthest (tab f n (n - n))
+pub far_none : (f : ℕ → Cell) (i n : ℕ) → i ≡ n → 0 ≡ farthest (tab f i (n - i))
 unfolding tab farthest
-far_none f n = let z : 0 ≡ n - n = omega arith in λ t. farthest (tab f n (z t))
+far_none f i n e = let z : 0 ≡ n - i = omega arith in λ t. farthest (tab f i (z t))
 
 far_join : (f : ℕ → Cell) (i n : ℕ) → 0 < i → i ≤ n → farthest (tab f (i - 1) (n - (i - 1))) ≡ max (farthest (tab f i (n - i))) (outness (f (i - 1)))
 unfolding tab farthest

@@ -1,3 +1,3 @@
 pub mod Shifts
 pub mod Sizes
-pub mod Frames
+pub mod Boxes

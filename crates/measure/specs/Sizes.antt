@@ -1,6 +1,6 @@
 -- How far out one cell lies.
 use Rattle.std.specs.Prelude.{ℕ, max}
-use Rattle.model.specs.Cells.{Cell}
+use Rattle.model.specs.declared.Cell.{Cell}
 use Rattle.model.specs.World.{size}
 
 -- the larger coordinate, without sign

@@ -1,18 +1,17 @@
 // Lists of cells in stretches of lent words: to compare and to measure them.
 #![tactic(auto)]
 
-ghost use Rattle.std.specs.Prelude.{◌≡◌, ℕ, ◌+◌, ◌*◌, ◌^◌, ◌<◌, ◌≤◌, MatchBool, Option, nat_le};
+ghost use Rattle.std.specs.Prelude.{◌≡◌, [], ℕ, ◌+◌, ◌<◌, ◌≤◌, Option, nat_le};
 ghost use Rattle.model.specs.declared.Period.{Period};
-ghost use Rattle.model.specs.Cells.{same_cells, bounds_of};
-ghost use Rattle.model.specs.World.{returned, edge, farthest, reach};
-ghost use Rattle.lent.specs.Mem.{mem};
-ghost use Rattle.lent.specs.Stretches.{Listed, cells_in, entry, row_at, col_at};
-ghost use Rattle.measure.specs.Shifts.{Along, first_x, first_y, shift_period};
+ghost use Rattle.model.specs.Cells.{same_cells, box_of, bounds_of};
+ghost use Rattle.model.specs.World.{returned, edge, size, farthest, reach};
+ghost use Rattle.lent.specs.Lists.{words_of, stretch_of, cells_of};
+ghost use Rattle.measure.specs.Shifts.{shift_period, shift_of};
 ghost use Rattle.measure.specs.Sizes.{outness};
-ghost use Rattle.measure.specs.Frames.{boxed, box_from, widened, Inside};
+ghost use Rattle.measure.specs.Boxes.{widened};
 
-use lent::{EDGE, Stretch, Words, to_coordinate};
-use model::Bounds;
+use lent::{CellList, EDGE};
+use model::{Bounds, Cell};
 
 // How a list was moved: by dx to the right and dy down.
 #[derive(Clone, Copy, PartialEq, Eq, Debug)]
@@ -21,104 +20,55 @@ pub struct Shift {
     pub dy: i64,
 }
 
-// The row of the i-th cell, as a word.
-fn row(words: &Words, s: Stretch, i: usize) -> u64
-    requires { (Listed (mem words.now) s) × (i < s.len) }
-    ensures value { result ≡ row_at (mem words.now) s.at i }
-    ensures near { result ≤ 3 * 2 ^ 60 }
-{
-    words.read(s.at + 2 * i)
-}
-
-fn column(words: &Words, s: Stretch, i: usize) -> u64
-    requires { (Listed (mem words.now) s) × (i < s.len) }
-    ensures value { result ≡ col_at (mem words.now) s.at i }
-    ensures near { result ≤ 3 * 2 ^ 60 }
-{
-    words.read(s.at + 2 * i + 1)
-}
-
 // Whether two lists have the same cells.
-pub fn same(words: &Words, a: Stretch, b: Stretch) -> bool
-    requires { (Listed (mem words.now) a) × (Listed (mem words.now) b) }
-    ensures { result ≡ same_cells (cells_in (mem words.now) a) (cells_in (mem words.now) b) }
+pub fn same(a: CellList, b: CellList) -> bool
+    ensures { result ≡ same_cells (cells_of a.entry) (cells_of b.entry) }
 {
-    if a.len != b.len {
-        return false;
-    }
-    for i in 0..a.len {
-        if row(words, a, i) != row(words, b, i) {
-            return false;
-        }
-        if column(words, a, i) != column(words, b, i) {
-            return false;
-        }
-    }
-    true
+    a.entries() == b.entries()
 }
 
-// Whether the i-th cells lie to each other as the first ones do. To compare sums spares negative numbers.
-fn along(words: &Words, a: Stretch, b: Stretch, i: usize) -> bool
-    requires first { (Listed (mem words.now) a) × (i < a.len) }
-    requires second { (Listed (mem words.now) b) × (i < b.len) }
-    ensures { MatchBool result (Along (mem words.now) a b i) (Along (mem words.now) a b i → ⊥) }
-{
-    if row(words, b, i) + row(words, a, 0) != row(words, b, 0) + row(words, a, i) {
-        return false;
-    }
-    column(words, b, i) + column(words, a, 0) == column(words, b, 0) + column(words, a, i)
-}
-
-// How the first cells lie to each other.
-fn first_shift(words: &Words, a: Stretch, b: Stretch) -> Shift
-    requires first { (Listed (mem words.now) a) × (0 < a.len) }
-    requires second { (Listed (mem words.now) b) × (0 < b.len) }
-    ensures across { result.dx ≡ first_x (mem words.now) a b }
-    ensures down { result.dy ≡ first_y (mem words.now) a b }
+// From one cell to another.
+fn shift_between(a: Cell, b: Cell) -> Shift
+    requires first { (size a.x ≤ edge) × (size a.y ≤ edge) }
+    requires second { (size b.x ≤ edge) × (size b.y ≤ edge) }
+    ensures { result ≡ shift_of a b }
 {
     Shift {
-        dx: column(words, b, 0) as i64 - column(words, a, 0) as i64,
-        dy: row(words, b, 0) as i64 - row(words, a, 0) as i64,
+        dx: b.x - a.x,
+        dy: b.y - a.y,
     }
 }
 
 // By how much the second list is the first one moved, if it is.
-pub fn find_shift(words: &Words, a: Stretch, b: Stretch) -> Option<Shift>
-    requires { (Listed (mem words.now) a) × (Listed (mem words.now) b) }
-    ensures { (t : ℕ) (go : Option Period) → returned t (cells_in (mem words.now) a) (cells_in (mem words.now) b) go ≡ shift_period t result go }
+pub fn find_shift(a: CellList, b: CellList) -> Option<Shift>
+    ensures { (t : ℕ) (go : Option Period) → returned t (cells_of a.entry) (cells_of b.entry) go ≡ shift_period t result go }
 {
-    if a.len != b.len {
+    if a.len() != b.len() {
         return None;
     }
-    if a.len == 0 {
+    if a.is_empty() {
         return Some(Shift { dx: 0, dy: 0 });
     }
-    for i in 1..a.len {
-        if !along(words, a, b, i) {
-            return None;
-        }
-    }
-    Some(first_shift(words, a, b))
+    let shift = shift_between(a.cell(0), b.cell(0));
+    (1..a.len())
+        .all(|i| shift_between(a.cell(i), b.cell(i)) == shift)
+        .then_some(shift)
 }
 
-// How far out the i-th cell lies: its larger coordinate, without sign.
-fn distance(words: &Words, s: Stretch, i: usize) -> u64
-    requires { (Listed (mem words.now) s) × (i < s.len) }
-    ensures { result ≡ outness (entry (mem words.now) s.at i) }
+// How far out a cell lies: its larger coordinate, without sign.
+fn distance(cell: Cell) -> u64
+    ensures { result ≡ outness cell }
 {
-    let x = to_coordinate(column(words, s, i));
-    let y = to_coordinate(row(words, s, i));
-    x.unsigned_abs().max(y.unsigned_abs())
+    cell.x.unsigned_abs().max(cell.y.unsigned_abs())
 }
 
-fn farthest_out(words: &Words, s: Stretch) -> u64
-    requires { Listed (mem words.now) s }
-    ensures { result ≡ farthest (cells_in (mem words.now) s) }
+fn farthest_out(list: CellList) -> u64
+    ensures { result ≡ farthest (cells_of list.entry) }
 {
     // from the end, since a list is its first cell and the rest
     let mut most = 0u64;
-    for i in (0..s.len).rev() {
-        most = most.max(distance(words, s, i));
+    for i in (0..list.len()).rev() {
+        most = most.max(distance(list.cell(i)));
     }
     most
 }
@@ -133,77 +83,46 @@ fn stays_inside(out: u64, n: u64) -> bool
 }
 
 // Whether no cell can come to lie beyond the edge in n generations.
-pub fn fits(words: &Words, s: Stretch, n: u64) -> bool
-    requires { Listed (mem words.now) s }
-    ensures { result ≡ reach n (cells_in (mem words.now) s) }
+pub fn fits(list: CellList, n: u64) -> bool
+    ensures { result ≡ reach n (cells_of list.entry) }
 {
-    if s.len == 0 {
-        return true;
-    }
-    stays_inside(farthest_out(words, s), n)
+    list.is_empty() || stays_inside(farthest_out(list), n)
 }
 
-// A box around cells, its sides as words.
-#[derive(Clone, Copy)]
-struct Frame {
-    left: u64,
-    top: u64,
-    right: u64,
-    bottom: u64,
-}
-
-impl Frame {
-    // Around one cell more.
-    fn widen(self, row: u64, column: u64) -> Frame
-        ensures { result ≡ widened self row column }
-    {
-        Frame {
-            left: self.left.min(column),
-            top: self.top.min(row),
-            right: self.right.max(column),
-            bottom: self.bottom.max(row),
-        }
-    }
-
-    fn to_bounds(self) -> Bounds
-        requires { Inside self }
-        ensures { result ≡ boxed self }
-    {
-        Bounds {
-            left: to_coordinate(self.left),
-            top: to_coordinate(self.top),
-            right: to_coordinate(self.right),
-            bottom: to_coordinate(self.bottom),
-        }
-    }
-}
-
-// The frame around all cells.
-fn enclose(words: &Words, s: Stretch) -> Frame
-    requires { (Listed (mem words.now) s) × (0 < s.len) }
-    ensures tight { boxed result ≡ box_from (mem words.now) s 1 }
-    ensures inside { Inside result }
+// The box around one cell.
+fn around(cell: Cell) -> Bounds
+    ensures { result ≡ box_of cell [] }
 {
-    let (y, x) = (row(words, s, 0), column(words, s, 0));
-    let mut frame = Frame {
-        left: x,
-        top: y,
-        right: x,
-        bottom: y,
-    };
-    for i in (1..s.len).rev() {
-        frame = frame.widen(row(words, s, i), column(words, s, i));
+    Bounds {
+        left: cell.x,
+        top: cell.y,
+        right: cell.x,
+        bottom: cell.y,
     }
-    frame
+}
+
+// The box around one cell more.
+fn widen(bounds: Bounds, cell: Cell) -> Bounds
+    ensures { result ≡ widened bounds cell }
+{
+    Bounds {
+        left: bounds.left.min(cell.x),
+        top: bounds.top.min(cell.y),
+        right: bounds.right.max(cell.x),
+        bottom: bounds.bottom.max(cell.y),
+    }
 }
 
 // The box around the cells; an empty list has none.
-pub fn bounds(words: &Words, s: Stretch) -> Option<Bounds>
-    requires { Listed (mem words.now) s }
-    ensures { result ≡ bounds_of (cells_in (mem words.now) s) }
+pub fn bounds(list: CellList) -> Option<Bounds>
+    ensures { result ≡ bounds_of (cells_of list.entry) }
 {
-    if s.len == 0 {
+    if list.is_empty() {
         return None;
     }
-    Some(enclose(words, s).to_bounds())
+    let mut bounds = around(list.cell(0));
+    for i in (1..list.len()).rev() {
+        bounds = widen(bounds, list.cell(i));
+    }
+    Some(bounds)
 }

@@ -14,3 +14,4 @@ pub mod Padded
 pub mod Runs
 pub mod Counts
 pub mod Cellwise
+pub mod Four

@@ -1,11 +1,8 @@
 -- Cells, their order, and finite lists of living cells.
 use Rattle.std.specs.Prelude.{Bool, true, false, cond, ◌&&◌, ◌||◌, List, [], ◌∷◌, ℤ, ◌+ℤ◌, Some, None, Option, int_le, int_lt}
 use Rattle.model.specs.declared.Bounds.{Bounds}
+pub use Rattle.model.specs.declared.Cell.{Cell}
 use Rattle.model.specs.Planes.{Plane}
-
-pub record Cell : Type 0 where
-  pub x : ℤ
-  pub y : ℤ
 
 abbrev pub cell_at : ℤ → ℤ → Cell
 cell_at x y = record { x = x; y = y }

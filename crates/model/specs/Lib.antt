@@ -7,3 +7,4 @@ pub mod Squares
 pub mod Answers
 pub mod Promise
 pub mod Rows
+pub mod Quarters

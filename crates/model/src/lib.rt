@@ -1,10 +1,21 @@
 // What a cell, a rule, a generation, a period and an answer are, and what holds of them. The definitions stand in specs/.
 #![tactic(auto)]
 
+mod quarters;
+
 ghost use Rattle.std.specs.Prelude.{◌≡◌};
 ghost use Rattle.model.specs.Answers.{number_of};
 ghost use Rattle.model.specs.Promise.{ListsRight, ListsSame, Adds, ReachRight, PeriodRight, PlanesAdd, AnyRules, Main, SquaresSame, BuildRight, PaddedRight, CellsRight, PaddedCells, CountRight, RunRight, RunPadded, PutRight};
 ghost use Rattle.model.specs.Rows.{RowsHold};
+
+pub use quarters::Quarters;
+
+// A cell of the plane: x goes to the right and y down.
+#[derive(Clone, Copy, PartialEq, Eq, Debug)]
+pub struct Cell {
+    pub x: i64,
+    pub y: i64,
+}
 
 // The box around the living cells: the columns and rows of its outermost cells.
 #[derive(Clone, Copy, PartialEq, Eq, Debug)]
@@ -58,62 +69,44 @@ impl Refusal {
     }
 }
 
-pub fn rows_stand() -> u8
+pub fn rows_stand()
     ensures { RowsHold }
-{
-    0
-}
+{}
 
-pub fn lists_stand() -> u8
+pub fn lists_stand()
     ensures { ListsRight × ListsSame × ReachRight }
-{
-    0
-}
+{}
 
-pub fn periods_stand() -> u8
+pub fn periods_stand()
     ensures { PeriodRight }
-{
-    0
-}
+{}
 
 // S is any type of states.
-pub fn generations_stand<S>() -> u8
+pub fn generations_stand<S>()
     ensures { Adds × PlanesAdd S }
-{
-    0
-}
+{}
 
 // Leaps, speed and symmetry, over any states and any local rules.
-pub fn leaps_stand<S>() -> u8
+pub fn leaps_stand<S>()
     ensures { AnyRules S }
-{
-    0
-}
+{}
 
 // The main promise.
-pub fn whole_stands() -> u8
+pub fn whole_stands()
     ensures { Main }
-{
-    0
-}
+{}
 
 // Squares are told by their cells, and padding changes nothing.
-pub fn squares_stand<S>() -> u8
+pub fn squares_stand<S>()
     ensures { SquaresSame S × BuildRight S × PaddedRight S }
-{
-    0
-}
+{}
 
 // Lists of the living cells of squares, and runs of them by leaps.
-pub fn runs_stand() -> u8
+pub fn runs_stand()
     ensures { CellsRight × PaddedCells × RunRight × RunPadded }
-{
-    0
-}
+{}
 
 // As many cells live in a square as its list has, and a square with one state changed.
-pub fn counts_stand() -> u8
+pub fn counts_stand()
     ensures { CountRight × PutRight }
-{
-    0
-}
+{}

@@ -3,7 +3,7 @@ use Rattle.std.specs.Prelude.{◌≡◌, Bool, cond, ℕ, zero, suc, ◌+◌, �
 use Rattle.model.specs.Squares.{Square, Four}
 use Rattle.leaf.specs.AsSquares.{word_square}
 use Rattle.nodes.specs.declared.Node.{Node}
-use Rattle.nodes.specs.declared.Quarters.{Quarters}
+use Rattle.model.specs.declared.quarters.Quarters.{Quarters}
 
 -- which node each slot holds; a square's number is its slot
 abbrev pub Table : Type 0
@@ -28,7 +28,7 @@ abbrev pub four_node : (d nw ne sw se : ℕ) → Node
 four_node d nw ne sw se = record { state = d + 3; upper = pair nw ne; lower = pair sw se }
 
 -- the quarters of a node that is no leaf
-abbrev pub quarters_of : Node → Quarters
+abbrev pub quarters_of : Node → Quarters ℕ
 quarters_of x = record { nw = first x.upper; ne = second x.upper; sw = first x.lower; se = second x.lower }
 
 -- the square of depth d that slot i stands for

@@ -1,20 +1,13 @@
 // Squares as nodes in lent words, and what holds of them. The definitions stand in specs/.
 #![tactic(auto)]
 
-ghost use Rattle.std.specs.Prelude.{◌≡◌, ◌+◌, ◌^◌, ◌<◌};
+ghost use Rattle.std.specs.Prelude.{◌≡◌, ◌+◌, ◌^◌, ◌<◌, ◌≤◌, ◌↔◌, IsTrue};
 ghost use Rattle.nodes.specs.Nodes.{SquaresOnce, first, second, pair, leaf_node, four_node, quarters_of};
+
+use model::Quarters;
 
 // Numbers of squares are below this; two of them stand in a word.
 const NUMBERS: u64 = 1 << 32;
-
-// The numbers of a square's four quarters.
-#[derive(Clone, Copy, PartialEq, Eq, Debug)]
-pub struct Quarters {
-    pub nw: usize,
-    pub ne: usize,
-    pub sw: usize,
-    pub se: usize,
-}
 
 // What tells a square from all others: for a leaf its word of cells, else the numbers of its quarters, two in a word. The state is the depth and 2.
 #[derive(Clone, Copy, PartialEq, Eq, Debug)]
@@ -36,7 +29,7 @@ impl Node {
     }
 
     // The node of four squares of this depth.
-    pub fn four(depth: usize, quarters: Quarters) -> Node
+    pub fn four(depth: usize, quarters: Quarters<usize>) -> Node
         requires { (depth < 100) × ((quarters.nw < 2 ^ 32) × ((quarters.ne < 2 ^ 32) × ((quarters.sw < 2 ^ 32) × (quarters.se < 2 ^ 32)))) }
         ensures { result ≡ four_node depth quarters.nw quarters.ne quarters.sw quarters.se }
     {
@@ -47,7 +40,21 @@ impl Node {
         }
     }
 
-    pub fn quarters(self) -> Quarters
+    pub fn is_leaf(self) -> bool
+        ensures { IsTrue result ↔ (self.state ≡ 2) }
+    {
+        self.state == 2
+    }
+
+    // How often its square is cut until leaves are reached.
+    pub fn depth(self) -> usize
+        requires { 2 ≤ self.state }
+        ensures { result + 2 ≡ self.state }
+    {
+        self.state as usize - 2
+    }
+
+    pub fn quarters(self) -> Quarters<usize>
         ensures { result ≡ quarters_of self }
     {
         Quarters {
@@ -79,8 +86,6 @@ fn second(half: u64) -> usize
 }
 
 // Two numbers of a depth that stand for the same square are one number.
-pub fn squares_once() -> u8
+pub fn squares_once()
     ensures { SquaresOnce }
-{
-    0
-}
+{}

@@ -1,15 +1,21 @@
 -- Leaps that are noted with squares, for a rule and an exponent.
-use Rattle.std.specs.Prelude.{ℕ, suc, ◌+◌, ◌*◌, ◌^◌, cond, ◌&&◌, Some, None, Option, ◌==◌}
+use Rattle.std.specs.Prelude.{ℕ, suc, ◌+◌, ◌*◌, ◌^◌, cond, ◌&&◌, Some, None, Option, Bool, ◌==◌}
+use Rattle.model.specs.Squares.{Square}
 use Rattle.rules.specs.declared.Rule.{Rule}
 use Rattle.rules.specs.Laws.{law}
 use Rattle.nodes.specs.Nodes.{IsAt, square_of}
 use Rattle.nodes.specs.Memory.{word, kind_of, target_of, stamp_of, leap_of}
+use Rattle.notes.specs.declared.Leap.{Leap}
 use Rattle.slots.specs.declared.Store.{Store}
 use Rattle.slots.specs.Stores.{mem, table}
 
--- the number l stands for the leap by 2^e generations of the square i of depth p + 1
-abbrev pub IsLeapOf : Store → Rule → (e p i l : ℕ) → Type 0
-IsLeapOf s r e p i l = IsAt s.slots (table s) p l (leap_of (law r) e p (square_of (table s) (suc p) i))
+-- the leap, to depth p, of a square of depth p + 1
+abbrev pub leap_to : Leap → ℕ → Square Bool → Square Bool
+leap_to l p = leap_of (law l.rule) l.exponent p
+
+-- the number n stands for the leap of the square i of depth p + 1
+abbrev pub IsLeapOf : Store → Leap → (p i n : ℕ) → Type 0
+IsLeapOf s l p i n = IsAt s.slots (table s) p n (leap_to l p (square_of (table s) (suc p) i))
 
 -- tells a rule from all others
 abbrev pub stamp_for : Rule → ℕ

@@ -1,7 +1,7 @@
 -- The four corners, one after another, and joined.
 use Rattle.std.proofs.Common.{◌≡◌, ℕ, suc, ◌+◌, ◌<◌, Bool, true, false, is_err, Ok, Err, Result, sym, subst, arith}
 use Rattle.model.specs.Squares.{Square, padded}
-use Rattle.nodes.specs.declared.Quarters.{Quarters}
+use Rattle.model.specs.declared.quarters.Quarters.{Quarters}
 use Rattle.slots.specs.declared.Store.{Store}
 use Rattle.slots.specs.Stores.{Has, Is, Still}
 use Rattle.holds.specs.declared.Hold.{Hold}
@@ -32,7 +32,7 @@ pub corner_has : (w u : Store) (b k n i : ℕ) → Framed w b k → Outcome w u 
 corner_has w u b k n i f o = (o.is _ (keeping_self w k (suc b) f.below f.has)).valid
 
 -- the numbers of the four corners
-pub record CornersOf (s : Store) (b k : ℕ) (f : Quarters) : Type 0 where
+pub record CornersOf (s : Store) (b k : ℕ) (f : Quarters ℕ) : Type 0 where
   pub below : k < s.top
   pub has : Has s (suc b) (held s k)
   pub cnw : (q : Square Bool) → Keeping s k (suc b) q → Is s (suc b) f.nw (corner_of b 0 q)
@@ -43,7 +43,7 @@ pub record CornersOf (s : Store) (b k : ℕ) (f : Quarters) : Type 0 where
 at_corner : (s : Store) (h : Hold) (b k j n : ℕ) → Gathered s h k (suc b) (suc b) 4 (corner_of b) → j < 4 → n ≡ held s (h.from + j) → (q : Square Bool) → Keeping s k (suc b) q → Is s (suc b) n (corner_of b j q)
 at_corner s h b k j n t l z q p = subst (λ (n : ℕ). Is s (suc b) n (corner_of b j q)) (sym z) (t.each q p j l).is
 
-pub four_corners : (s : Store) (h : Hold) (b k : ℕ) (f : Quarters) → Gathered s h k (suc b) (suc b) 4 (corner_of b) → f.nw ≡ held s (h.from + 0) → f.ne ≡ held s (h.from + 1) →
+pub four_corners : (s : Store) (h : Hold) (b k : ℕ) (f : Quarters ℕ) → Gathered s h k (suc b) (suc b) 4 (corner_of b) → f.nw ≡ held s (h.from + 0) → f.ne ≡ held s (h.from + 1) →
     f.sw ≡ held s (h.from + 2) → f.se ≡ held s (h.from + 3) → CornersOf s b k f
 four_corners s h b k f t z1 z2 z3 z4 = record {
   below = let a = t.root in let c = t.ends in omega arith;
@@ -54,12 +54,12 @@ four_corners s h b k f t z1 z2 z3 z4 = record {
   cse = at_corner s h b k 3 f.se t (omega arith) z4;
 }
 
-pub corners_four : (s : Store) (b k d : ℕ) (f : Quarters) → d ≡ suc b → CornersOf s b k f → FourOf s d f
+pub corners_four : (s : Store) (b k d : ℕ) (f : Quarters ℕ) → d ≡ suc b → CornersOf s b k f → FourOf s d f
 corners_four s b k d f z t =
     let p = keeping_self s k (suc b) t.below t.has in
     subst (λ (d : ℕ). FourOf s d f) (sym z) (record { has_nw = (t.cnw _ p).valid; has_ne = (t.cne _ p).valid; has_sw = (t.csw _ p).valid; has_se = (t.cse _ p).valid })
 
-pub corners_padded : (v w u : Store) (t b k d : ℕ) (f : Quarters) (o : Result ℕ Full) → Still t v w → k < t → d ≡ suc b → CornersOf w b k f → Interned w u d f o →
+pub corners_padded : (v w u : Store) (t b k d : ℕ) (f : Quarters ℕ) (o : Result ℕ Full) → Still t v w → k < t → d ≡ suc b → CornersOf w b k f → Interned w u d f o →
     Answers (suc b) (suc (suc b)) k (padded false (suc (suc (suc b)))) v u o
 corners_padded v w u t b k d f o s l z h a = go o (subst (λ (d : ℕ). Interned w u d f o) z a)
   where

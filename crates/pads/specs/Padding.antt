@@ -1,7 +1,6 @@
 -- Squares with nothing around them.
 use Rattle.std.specs.Prelude.{◌≡◌, ℕ, zero, suc, ◌+◌, ◌<◌, ◌≤◌, Bool, false, Ok, Err, Result}
 use Rattle.model.specs.Squares.{Square, Four, nw, ne, sw, se, plain, padded}
-use Rattle.nodes.specs.declared.Quarters.{Quarters}
 use Rattle.nodes.specs.Nodes.{Full}
 use Rattle.nodes.specs.Memory.{hold_room}
 use Rattle.slots.specs.declared.Store.{Store}
@@ -39,13 +38,6 @@ pub record Framed (s : Store) (b k : ℕ) : Type 0 where
   pub below : k < s.top
   pub has : Has s (suc b) (held s k)
   pub deep : b < 59
-
--- the same by numbers
-abbrev pub quarters_around : (blank inner i : ℕ) → Quarters
-quarters_around e q zero = record { nw = e; ne = e; sw = e; se = q }
-quarters_around e q (suc zero) = record { nw = e; ne = e; sw = q; se = e }
-quarters_around e q (suc (suc zero)) = record { nw = e; ne = q; sw = e; se = e }
-quarters_around e q (suc (suc (suc i))) = record { nw = q; ne = e; sw = e; se = e }
 
 -- a square of depth b + 1 is held at k, nothing by h, which is the last hold, and there is room for four
 pub record Starting (s : Store) (h : Hold) (b k : ℕ) : Type 0 where

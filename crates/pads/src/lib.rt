@@ -6,10 +6,10 @@ ghost use Rattle.model.specs.Squares.{padded};
 ghost use Rattle.nodes.specs.Memory.{hold_room};
 ghost use Rattle.slots.specs.Stores.{Same, Good};
 ghost use Rattle.pieces.specs.Nine.{Outcome};
-ghost use Rattle.pads.specs.Padding.{BlankGiven, corner_of, Framed, quarters_around, Starting, CornersJoined};
+ghost use Rattle.pads.specs.Padding.{BlankGiven, corner_of, Framed, Starting, CornersJoined};
 
 use holds::Hold;
-use nodes::Quarters;
+use model::Quarters;
 use pieces::quarter;
 use slots::Store;
 use store::{Full, intern, intern_leaf};
@@ -24,13 +24,7 @@ pub fn empty(store: &mut Store, depth: usize) -> Result<usize, Full>
         return intern_leaf(store, 0);
     }
     let quarter = empty(store, depth - 1)?;
-    let four = Quarters {
-        nw: quarter,
-        ne: quarter,
-        sw: quarter,
-        se: quarter,
-    };
-    intern(store, depth - 1, four)
+    intern(store, depth - 1, Quarters::all(quarter))
 }
 
 // The i-th quarter of a padded square; `below` is the depth of the held square's quarters.
@@ -40,40 +34,11 @@ fn corner(store: &mut Store, below: usize, place: usize, i: usize) -> Result<usi
     ensures corner { Outcome store.old store.new (suc below) (suc below) place (corner_of below i) result }
 {
     let blank = empty(store, below)?;
-    let inner = quarter(store, store.held(place) as usize, i / 2, i % 2);
-    intern(store, below, around(blank, inner, i))
-}
-
-// A quarter in the corner that lies towards the middle.
-fn around(blank: usize, inner: usize, i: usize) -> Quarters
-    ensures { result ≡ quarters_around blank inner i }
-{
-    match i {
-        0 => Quarters {
-            nw: blank,
-            ne: blank,
-            sw: blank,
-            se: inner,
-        },
-        1 => Quarters {
-            nw: blank,
-            ne: blank,
-            sw: inner,
-            se: blank,
-        },
-        2 => Quarters {
-            nw: blank,
-            ne: inner,
-            sw: blank,
-            se: blank,
-        },
-        _ => Quarters {
-            nw: inner,
-            ne: blank,
-            sw: blank,
-            se: blank,
-        },
-    }
+    let (row, column) = (i / 2, i % 2);
+    let inner = quarter(store, store.held(place), row, column);
+    // it lies in the corner towards the middle
+    let four = Quarters::all(blank).with(1 - row, 1 - column, inner);
+    intern(store, below, four)
 }
 
 // The held square with nothing around it, twice as wide.
@@ -102,11 +67,6 @@ fn join_corners(
         let number = corner(store, below, place, i)?;
         corners.add(store, number);
     }
-    let four = Quarters {
-        nw: corners.number(store, 0),
-        ne: corners.number(store, 1),
-        sw: corners.number(store, 2),
-        se: corners.number(store, 3),
-    };
+    let four = Quarters::of(|row, column| corners.number(store, 2 * row + column));
     intern(store, below + 1, four)
 }

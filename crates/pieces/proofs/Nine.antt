@@ -2,38 +2,23 @@
 use Rattle.std.proofs.Common.{◌≡◌, ℕ, zero, suc, ◌+◌, ◌/◌, ◌%◌, Bool, Ok, Err, Result, sym, refl, ◌∙◌, subst, arith}
 use Rattle.model.specs.Squares.{Square, Four, nw, ne, sw, se, middle}
 use Rattle.leaf.specs.AsSquares.{word_square}
-use Rattle.nodes.specs.declared.Quarters.{Quarters}
+use Rattle.model.specs.Quarters.{quarter_in}
+use Rattle.model.specs.declared.quarters.Quarters.{Quarters}
 use Rattle.nodes.specs.Nodes.{square_of}
 use Rattle.slots.specs.declared.Store.{Store}
 use Rattle.slots.specs.Stores.{Has, Is, table}
 use Rattle.holds.specs.Holding.{held}
+use Rattle.squares.specs.Parts.{QuartersOf}
 use Rattle.store.specs.declared.Full.{Full}
 use Rattle.store.specs.Interning.{Interned, LeafInterned}
 use Rattle.pieces.specs.Nine.{quarter_at, sixteenth, piece_at, Answers, IsMiddle}
 
-pub at_nw : (r c : ℕ) (q : Square Bool) → r ≡ 0 → c ≡ 0 → quarter_at r c q ≡ nw q
-at_nw zero zero q e f = refl
-at_nw zero (suc c) q e f = absurd (omega arith)
-at_nw (suc r) zero q e f = absurd (omega arith)
-at_nw (suc r) (suc c) q e f = absurd (omega arith)
-
-pub at_ne : (r c : ℕ) (q : Square Bool) → r ≡ 0 → (c ≡ 0 → ⊥) → quarter_at r c q ≡ ne q
-at_ne zero zero q e f = absurd (f refl)
-at_ne zero (suc c) q e f = refl
-at_ne (suc r) zero q e f = absurd (omega arith)
-at_ne (suc r) (suc c) q e f = absurd (omega arith)
-
-pub at_sw : (r c : ℕ) (q : Square Bool) → (r ≡ 0 → ⊥) → c ≡ 0 → quarter_at r c q ≡ sw q
-at_sw zero zero q e f = absurd (e refl)
-at_sw zero (suc c) q e f = absurd (e refl)
-at_sw (suc r) zero q e f = refl
-at_sw (suc r) (suc c) q e f = absurd (omega arith)
-
-pub at_se : (r c : ℕ) (q : Square Bool) → (r ≡ 0 → ⊥) → (c ≡ 0 → ⊥) → quarter_at r c q ≡ se q
-at_se zero zero q e f = absurd (e refl)
-at_se zero (suc c) q e f = absurd (e refl)
-at_se (suc r) zero q e f = absurd (f refl)
-at_se (suc r) (suc c) q e f = refl
+-- the quarter in a row and column, by its number
+pub quarter_is : (s : Store) (d r c : ℕ) (q : Square Bool) (f : Quarters ℕ) → QuartersOf s d q f → Is s d (quarter_in f r c) (quarter_at r c q)
+quarter_is s d zero zero q f h = h.is_nw
+quarter_is s d zero (suc c) q f h = h.is_ne
+quarter_is s d (suc r) zero q f h = h.is_sw
+quarter_is s d (suc r) (suc c) q f h = h.is_se
 
 -- a square that is no leaf is made of its quarters
 pub four_of_lem : (s : Store) (d i : ℕ) (q : Square Bool) → Is s (suc d) i q → q ≡ Four (nw q) (ne q) (sw q) (se q)
@@ -50,7 +35,7 @@ even_piece r c q x e f g =
     (λ t. Four (nw x) (ne (g t)) (sw (g t)) (se (g t)))
 
 -- what is interned of the four is the piece
-pub piece_interned : (v w : Store) (b k r c : ℕ) (f : Quarters) (o : Result ℕ Full) →
+pub piece_interned : (v w : Store) (b k r c : ℕ) (f : Quarters ℕ) (o : Result ℕ Full) →
     ((q : Square Bool) → Is v (suc (suc b)) (held v k) q → Is v b f.nw (sixteenth r c q)) →
     ((q : Square Bool) → Is v (suc (suc b)) (held v k) q → Is v b f.ne (sixteenth r (c + 1) q)) →
     ((q : Square Bool) → Is v (suc (suc b)) (held v k) q → Is v b f.sw (sixteenth (r + 1) c q)) →
@@ -62,14 +47,14 @@ piece_interned v w b k r c f (Err z) a1 a2 a3 a4 h = h
 pub is_self : (s : Store) (d i : ℕ) → Has s d i → Is s d i (square_of (table s) d i)
 is_self s d i h = record { valid = h; same = refl }
 
-pub middle_leaf : (v w : Store) (d : ℕ) (f : Quarters) (m : ℕ) (o : Result ℕ Full) → d ≡ 0 → LeafInterned w m o →
+pub middle_leaf : (v w : Store) (d : ℕ) (f : Quarters ℕ) (m : ℕ) (o : Result ℕ Full) → d ≡ 0 → LeafInterned w m o →
     ((a b c e : Square Bool) → Is v 0 f.nw a → Is v 0 f.ne b → Is v 0 f.sw c → Is v 0 f.se e → word_square m ≡ middle (Four a b c e)) → IsMiddle v w d f o
 middle_leaf v w d f m (Ok i) z h g =
     subst (λ (d : ℕ). (a b c e : Square Bool) → Is v d f.nw a → Is v d f.ne b → Is v d f.sw c → Is v d f.se e → Is w d i (middle (Four a b c e))) (sym z)
     (λ a b c e ha hb hc he. subst (Is w 0 i) (g a b c e ha hb hc he) h.is)
 middle_leaf v w d f m (Err z') z h g = h
 
-pub middle_interned : (v w : Store) (d p : ℕ) (f g : Quarters) (o : Result ℕ Full) → d ≡ suc p →
+pub middle_interned : (v w : Store) (d p : ℕ) (f g : Quarters ℕ) (o : Result ℕ Full) → d ≡ suc p →
     ((q : Square Bool) → Is v (suc p) f.nw q → Is v p g.nw (se q)) → ((q : Square Bool) → Is v (suc p) f.ne q → Is v p g.ne (sw q)) →
     ((q : Square Bool) → Is v (suc p) f.sw q → Is v p g.sw (ne q)) → ((q : Square Bool) → Is v (suc p) f.se q → Is v p g.se (nw q)) →
     Interned v w p g o → IsMiddle v w d f o

@@ -1,7 +1,7 @@
 -- The nine squares that overlap inside a square, three in each of three rows, each half as wide as it.
 use Rattle.std.specs.Prelude.{◌≡◌, ℕ, zero, suc, ◌+◌, ◌/◌, ◌%◌, Bool, Ok, Err, Result}
 use Rattle.model.specs.Squares.{Square, Four, nw, ne, sw, se, middle}
-use Rattle.nodes.specs.declared.Quarters.{Quarters}
+use Rattle.model.specs.declared.quarters.Quarters.{Quarters}
 use Rattle.nodes.specs.Nodes.{Full}
 use Rattle.slots.specs.declared.Store.{Store}
 use Rattle.slots.specs.Stores.{Good, Is, Still, table}
@@ -53,11 +53,11 @@ pub record Given (v w : Store) (e d i : ℕ) (f : Square Bool → Square Bool) (
   pub is : Gives e d i f v w o
 
 -- the number of the middle of four squares of depth d, or the store is full
-abbrev pub IsMiddle : Store → Store → ℕ → Quarters → Result ℕ NoRoom → Type 0
+abbrev pub IsMiddle : Store → Store → ℕ → Quarters ℕ → Result ℕ NoRoom → Type 0
 IsMiddle v w d q (Ok i) = (a b c e : Square Bool) → Is v d q.nw a → Is v d q.ne b → Is v d q.sw c → Is v d q.se e → Is w d i (middle (Four a b c e))
 IsMiddle v w d q (Err _) = Full w.slots (table w)
 
-pub record MiddleGiven (v w : Store) (d : ℕ) (q : Quarters) (o : Result ℕ NoRoom) : Type 0 where
+pub record MiddleGiven (v w : Store) (d : ℕ) (q : Quarters ℕ) (o : Result ℕ NoRoom) : Type 0 where
   pub good : Good w
   pub steady : Steady v w
   pub is : IsMiddle v w d q o

@@ -1,9 +1,9 @@
 -- The place of a node in the table.
-use Rattle.std.specs.Prelude.{◌≡◌, ℕ, zero, suc, ◌+◌, ◌^◌, ◌<◌, ◌≤◌, Bool, List, Some, None, Option, ◌≢◌}
+use Rattle.std.specs.Prelude.{◌≡◌, ℕ, zero, suc, ◌+◌, ◌^◌, ◌<◌, ◌≤◌, Bool, List, ◌≢◌}
 use Rattle.model.specs.Squares.{Square, Four}
 use Rattle.leaf.specs.AsSquares.{word_square}
 use Rattle.nodes.specs.declared.Node.{Node}
-use Rattle.nodes.specs.declared.Quarters.{Quarters}
+use Rattle.model.specs.declared.quarters.Quarters.{Quarters}
 use Rattle.nodes.specs.Nodes.{Table, first, second, Kids, square_of, away, home_of, used}
 use Rattle.nodes.specs.Memory.{base, word, tag, count_in, FrontAt}
 use Rattle.probe.specs.declared.Place.{Place}
@@ -23,7 +23,7 @@ square_in v (suc d) x =
     Four (square_of v d (first x.upper)) (square_of v d (second x.upper)) (square_of v d (first x.lower)) (square_of v d (second x.lower))
 
 -- slots whose counts can be added up
-pub record Countable (a n : ℕ) (m : List ℕ) (q : Quarters) : Type 0 where
+pub record Countable (a n : ℕ) (m : List ℕ) (q : Quarters ℕ) : Type 0 where
   pub wnw : q.nw < n
   pub wne : q.ne < n
   pub wsw : q.sw < n
@@ -33,7 +33,7 @@ pub record Countable (a n : ℕ) (m : List ℕ) (q : Quarters) : Type 0 where
   pub csw : count_in a m q.sw < 2 ^ 125
   pub cse : count_in a m q.se < 2 ^ 125
 
-abbrev pub counts_of : ℕ → List ℕ → Quarters → ℕ
+abbrev pub counts_of : ℕ → List ℕ → Quarters ℕ → ℕ
 counts_of a m q = count_in a m q.nw + count_in a m q.ne + (count_in a m q.sw + count_in a m q.se)
 
 -- slot s holds no square, the search for x comes to it, and x stands nowhere
@@ -42,11 +42,6 @@ pub record Fit (n : ℕ) (v : Table) (x : Node) (s : ℕ) : Type 0 where
   pub free : (v s).state < 2
   pub full : (u : ℕ) → u < n → away n (home_of n x) u < away n (home_of n x) s → 0 < (v u).state
   pub none : (j : ℕ) → j < n → v j ≢ x
-
--- the slot that was kept, or else this one
-abbrev pub first_of : Option ℕ → ℕ → ℕ
-first_of (Some s) i = s
-first_of None i = i
 
 -- what is found of a node: its number; a place for it; or neither, where all slots hold squares
 unfoldable pub Found : ℕ → Table → Node → Place → Type 0

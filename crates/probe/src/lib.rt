@@ -6,13 +6,14 @@ ghost use Rattle.model.specs.Squares.{living};
 ghost use Rattle.nodes.specs.Nodes.{Sound};
 ghost use Rattle.slots.specs.Stores.{mem, Same, Fixed, Cut, Laid, Good, table};
 ghost use Rattle.probe.specs.Adding.{Added};
-ghost use Rattle.probe.specs.Places.{Proper, square_in, Found, Filled, first_of, Countable, counts_of};
+ghost use Rattle.probe.specs.Places.{Proper, square_in, Found, Filled, Countable, counts_of};
 
-use nodes::{Node, Quarters};
-use slots::{COUNT_HIGH, COUNT_LOW, FURTHER_NOTE, LEAP_NOTE, LOWER, Store, TAG, UPPER};
+use model::Quarters;
+use nodes::Node;
+use slots::{SlotWord, State, Store};
 
 // Where a node is, or may be put.
-#[derive(Clone, Copy)]
+#[derive(Clone, Copy, PartialEq, Eq, Debug)]
 pub enum Place {
     // the slot that holds it
     Old(usize),
@@ -29,32 +30,22 @@ pub fn find(store: &Store, node: Node) -> Place
     ensures { Found store.now.slots (table store.now) node result }
 {
     let mut spot = None;
-    let mut slot = store.home(node);
-    for steps in 0..store.slots {
-        let state = store.state(slot);
-        if state == 0 {
-            return Place::New(first(spot, slot));
+    let home = store.home(node);
+    for slot in (home..store.slots).chain(0..home) {
+        match store.state(slot) {
+            State::Empty => return Place::New(spot.unwrap_or(slot)),
+            State::Free => spot = spot.or(Some(slot)),
+            State::Square(_) => {
+                let other = store.node(slot);
+                if other == node {
+                    return Place::Old(slot);
+                }
+            }
         }
-        if state == 1 {
-            spot = Some(first(spot, slot));
-        } else if holds(store, slot, node) {
-            return Place::Old(slot);
-        }
-        slot = if slot + 1 < store.slots { slot + 1 } else { 0 };
     }
     match spot {
         Some(slot) => Place::New(slot),
         None => Place::Nowhere,
-    }
-}
-
-// The slot that was kept, or else this one.
-fn first(kept: Option<usize>, slot: usize) -> usize
-    ensures { result ≡ first_of kept slot }
-{
-    match kept {
-        Some(earlier) => earlier,
-        None => slot,
     }
 }
 
@@ -82,35 +73,19 @@ pub fn add(store: &mut Store, node: Node) -> Option<usize>
     }
 }
 
-// Whether a slot holds this very node: the depth and both halves are compared.
-fn holds(store: &Store, slot: usize, node: Node) -> bool
-    requires laid { Laid store.now }
-    requires within { slot < store.now.slots }
-    ensures is { result ≡ true → table store.now slot ≡ node }
-    ensures not { result ≡ false → table store.now slot ≢ node }
-{
-    if store.state(slot) != node.state {
-        return false;
-    }
-    if store.word(slot, UPPER) != node.upper {
-        return false;
-    }
-    store.word(slot, LOWER) == node.lower
-}
-
 // How many cells live in the square of a node.
 fn count_of(store: &Store, node: Node) -> u128
     requires good { Good store.now }
     requires proper { Proper store.now.slots (table store.now) node }
     ensures { (d : ℕ) → node.state ≡ d + 2 → result ≡ living (square_in (table store.now) d node) }
 {
-    if node.state == 2 {
+    if node.is_leaf() {
         return u128::from(leaf::count(node.upper));
     }
     sum_counts(store, node.quarters())
 }
 
-fn sum_counts(store: &Store, quarters: Quarters) -> u128
+fn sum_counts(store: &Store, quarters: Quarters<usize>) -> u128
     requires laid { Laid store.now }
     requires within { Countable store.now.at store.now.slots (mem store.now) quarters }
     ensures { result ≡ counts_of store.now.at (mem store.now) quarters }
@@ -128,11 +103,11 @@ fn fill(store: &mut Store, slot: usize, node: Node, count: u128)
     ensures fixed { Fixed store.old store.new }
     ensures filled { Filled store.old.at slot node count (mem store.old) (mem store.new) }
 {
-    store.set_word(slot, TAG, node.state);
-    store.set_word(slot, UPPER, node.upper);
-    store.set_word(slot, LOWER, node.lower);
-    store.set_word(slot, LEAP_NOTE, 0);
-    store.set_word(slot, FURTHER_NOTE, 0);
-    store.set_word(slot, COUNT_LOW, (count % (1 << 64)) as u64);
-    store.set_word(slot, COUNT_HIGH, (count >> 64) as u64);
+    store.set_word(slot, SlotWord::Tag, node.state);
+    store.set_word(slot, SlotWord::Upper, node.upper);
+    store.set_word(slot, SlotWord::Lower, node.lower);
+    store.set_word(slot, SlotWord::LeapNote, 0);
+    store.set_word(slot, SlotWord::FurtherNote, 0);
+    store.set_word(slot, SlotWord::CountLow, (count % (1 << 64)) as u64);
+    store.set_word(slot, SlotWord::CountHigh, (count >> 64) as u64);
 }

@@ -1,14 +1,10 @@
 -- The bits of a number as flags, and which two numbers make a rule.
-use Rattle.std.proofs.Common.{◌≡◌, ℕ, zero, suc, ◌/◌, ◌%◌, ◌^◌, ◌<◌, ◌≤◌, Bool, true, false, cond, not, ◌&&◌, T, eqb, ltb, [], length, Ok, Err, Result, sym, refl, ap, ◌∙◌, subst, one-add, arith}
+use Rattle.std.proofs.Common.{◌≡◌, ℕ, zero, suc, ◌/◌, ◌%◌, ◌^◌, ◌<◌, ◌≤◌, Bool, true, false, cond, not, ◌&&◌, T, eqb, ltb, [], length, sym, refl, ap, ◌∙◌, one-add, arith}
 use lib.Bits.{bit_and}
 use Rattle.std.proofs.lemmas.Nat.{shr-shr, and_mask}
 use Rattle.std.proofs.lemmas.Bool.{lt-ltb}
 use Rattle.std.proofs.lemmas.Bool.Decides.{nat_tests}
-use Rattle.model.specs.declared.Refusal.{Refusal}
-use Rattle.model.specs.declared.Refusal.TheVariants.{BadRule}
 use Rattle.model.specs.Rules.{nth, flags, nine_flags, rule_of, good_rule, becomes}
-use Rattle.rules.specs.declared.Rule.{Rule}
-use Rattle.rules.specs.Laws.{law, ruled}
 
 pub nth_flags : (k j n : ℕ) → k < j → nth k (flags j n) ≡ eqb (n / 2 ^ k % 2) 1
 unfolding nth flags
@@ -44,13 +40,3 @@ pub fate_is : (b s x n : ℕ) (alive : Bool) → T (good_rule (rule_of b s)) →
     eqb (bit_and (x / 2 ^ n) 1) 1 ≡ becomes (rule_of b s) alive n
 fate_is b s x n true good eight e = ap (λ (m : ℕ). eqb (bit_and (m / 2 ^ n) 1) 1) e ∙ nine_bit s n (good_fits b s good).1 eight
 fate_is b s x n false good eight e = ap (λ (m : ℕ). eqb (bit_and (m / 2 ^ n) 1) 1) e ∙ nine_bit b n (good_fits b s good).0 eight
-
--- what is made is a rule, and that of the two numbers
-pub ruled_ok : (b s : ℕ) (r : Rule) → Ok r ≡ ruled b s → T (good_rule (law r)) × (r ≡ record { born = b; stays = s })
-ruled_ok b s r e = go (good_rule (rule_of b s)) refl e
-  where
-    go : (t : Bool) → good_rule (rule_of b s) ≡ t → ◌≡◌ {A = Result Rule Refusal} (Ok r) (cond t (Ok (record { born = b; stays = s })) (Err BadRule)) → T (good_rule (law r)) × (r ≡ record { born = b; stays = s })
-    go true g h =
-        let same : r ≡ record { born = b; stays = s } = cc in
-        (subst (λ (x : Rule). T (good_rule (law x))) (sym same) (subst T (sym g) tt), same)
-    go false g h = absurd (let z : ◌≡◌ {A = ℕ} 0 1 = cc in omega arith)

@@ -1,36 +1,30 @@
 -- What is read of the text of a rule is what the text writes.
-use Rattle.std.proofs.Common.{◌≡◌, ℕ, zero, suc, ◌+◌, ◌-◌, ◌*◌, ◌/◌, ◌%◌, ◌^◌, ◌<◌, ◌≤◌, Bool, true, false, cond, eqb, List, [], ◌∷◌, ◌++◌, length, get_or, drop, Some, None, Option, sym, refl, ap, ◌∙◌, subst, ⊎_elim, append-nil, mul_assoc, one-mul, pow-suc, mul-add, add-one, arith}
-use Rattle.std.proofs.lemmas.List.{at_drop_more, at_drop_all, drop-drop}
-use Rattle.std.proofs.lemmas.Bool.{eqb-true, eqb-false, eq-eqb, ne_eqb, both_ways, cases_lt}
+use Rattle.std.proofs.Common.{◌≡◌, ℕ, zero, suc, ◌+◌, ◌-◌, ◌*◌, ◌/◌, ◌%◌, ◌^◌, ◌<◌, ◌≤◌, Bool, true, false, ◌&&◌, cond, eqb, List, [], ◌∷◌, ◌++◌, length, take, drop, Some, None, Option, sym, refl, ap, ◌∙◌, subst, append-nil, mul_assoc, one-mul, pow-suc, mul-add, add-one, arith}
+use lib.Pointwise.{pointwise}
+use Rattle.std.proofs.lemmas.Bool.{eqb-true, eqb-false, eq-eqb, ne_eqb, both_ways}
 use Rattle.model.specs.Rules.{flags}
-use Rattle.rules.specs.declared.RuleSets.{RuleSets}
+use Rattle.rules.specs.declared.texts.RuleSets.{RuleSets}
 use Rattle.rules.specs.Texts.{digits, set_text, rule_text, Read, begins, reads, set_at_front, ended, after_stays, after_born, sets_of, Sets}
 
-pub begins_at : (c at : ℕ) (bs : List ℕ) → at < length bs → begins c (drop at bs) ≡ eqb (get_or bs at 0) c
-begins_at c at bs h = at_drop_more (begins c) bs at 0 h
-
-pub begins_past : (c at : ℕ) (bs : List ℕ) → length bs ≤ at → begins c (drop at bs) ≡ false
-begins_past c at bs h = at_drop_all (begins c) bs at h
+-- a prefix of one byte
+pub prefix_begins : (c : ℕ) (bs : List ℕ) → pointwise eqb (take 1 bs) (c ∷ []) ≡ begins c bs
+prefix_begins c [] = refl
+prefix_begins c (b ∷ bs) = elim (eqb b c) as (λ t. (t && true) ≡ t) [ true ↦ refl | false ↦ refl ]
 
 -- one turn of the loop that reads a set
-pub reads_more : (k n e : ℕ) (bs : List ℕ) → k < 9 →
-    reads (9 - k) k n (drop e bs)
-    ≡ cond (begins (48 + k) (drop e bs)) (reads (9 - (k + 1)) (k + 1) (n + 2 ^ k) (drop (e + 1) bs)) (reads (9 - (k + 1)) (k + 1) n (drop e bs))
+pub reads_more : (k n : ℕ) (bs : List ℕ) → k < 9 →
+    reads (9 - k) k n bs ≡ cond (begins (48 + k) bs) (reads (9 - (k + 1)) (k + 1) (n + 2 ^ k) (drop 1 bs)) (reads (9 - (k + 1)) (k + 1) n bs)
 unfolding reads
-reads_more k n e bs h =
+reads_more k n bs h =
     let one : 9 - k ≡ suc (9 - (k + 1)) = omega arith in
-    rw (one, add-one k, drop-drop 1 e bs)
+    rw (one, add-one k)
 
--- the same, where t says whether the digit was taken
-pub turn : (k n e n' e' : ℕ) (bs : List ℕ) (t : Bool) → k < 9 → t ≡ begins (48 + k) (drop e bs) →
-    n' ≡ cond t (n + 2 ^ k) n → e' ≡ cond t (e + 1) e →
-    reads (9 - (k + 1)) (k + 1) n' (drop e' bs) ≡ reads (9 - k) k n (drop e bs)
-turn k n e n' e' bs true h b p q = cc (rw (sym b) at (reads_more k n e bs h))
-turn k n e n' e' bs false h b p q = cc (rw (sym b) at (reads_more k n e bs h))
-
-pub begins_within : (c at : ℕ) (bs : List ℕ) → true ≡ begins c (drop at bs) → at < length bs
-begins_within c at bs e =
-    ⊎_elim (λ h. h) (λ h. absurd (both_ways (begins c (drop at bs)) (begins_past c at bs h) (sym e))) (cases_lt at (length bs))
+-- the same, where t says whether the digit stands there
+pub turn : (k n n' : ℕ) (bs bs' : List ℕ) (t : Bool) → k < 9 → pointwise eqb (take 1 bs) ((48 + k) ∷ []) ≡ t →
+    n' ≡ cond t (n + 2 ^ k) n → bs' ≡ cond t (drop 1 bs) bs →
+    reads (9 - (k + 1)) (k + 1) n' bs' ≡ reads (9 - k) k n bs
+turn k n n' bs bs' true h b p q = cc (rw (sym (prefix_begins (48 + k) bs) ∙ b) at (reads_more k n bs h))
+turn k n n' bs bs' false h b p q = cc (rw (sym (prefix_begins (48 + k) bs) ∙ b) at (reads_more k n bs h))
 
 -- the number whose bits are the flags
 unfoldable pub weight : List Bool → ℕ
@@ -207,21 +201,3 @@ sets_at bs None e = λ b s hb hs t. let z : ◌≡◌ {A = ℕ} 0 1 = cc (ap set
 -- a text is read just where it is the text of two sets
 pub sets_right : (bs : List ℕ) (o : Option RuleSets) → o ≡ sets_of bs → Sets bs o
 sets_right bs o e = sets_at bs o (sym e)
-
--- the ways through a text
-pub no_b : (bs : List ℕ) → false ≡ begins 98 bs → None ≡ sets_of bs
-no_b bs e = rw (sym e)
-
-pub no_s : (bs : List ℕ) (b e : ℕ) → true ≡ begins 98 bs → set_at_front (drop 1 bs) ≡ record { set = b; rest = drop e bs } →
-    false ≡ begins 115 (drop e bs) → None ≡ sets_of bs
-no_s bs b e h r g = rw (sym h, r, sym g)
-
-pub to_end : (bs : List ℕ) (b e s f : ℕ) → true ≡ begins 98 bs → set_at_front (drop 1 bs) ≡ record { set = b; rest = drop e bs } →
-    true ≡ begins 115 (drop e bs) → set_at_front (drop (e + 1) bs) ≡ record { set = s; rest = drop f bs } → sets_of bs ≡ ended b s (drop f bs)
-to_end bs b e s f h r g q = rw (sym h, r, sym g, drop-drop 1 e bs, q)
-
-pub ended_past : (b s f : ℕ) (bs : List ℕ) → length bs ≤ f → ended b s (drop f bs) ≡ Some (record { born = b; stays = s })
-ended_past b s f bs h = at_drop_all (ended b s) bs f h
-
-pub ended_within : (b s f : ℕ) (bs : List ℕ) → f < length bs → ended b s (drop f bs) ≡ None
-ended_within b s f bs h = at_drop_more (ended b s) bs f 0 h

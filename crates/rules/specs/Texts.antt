@@ -1,7 +1,7 @@
 -- The text of a rule: `b`, the numbers of neighbours that give birth, `s`, those that let live, each in increasing order.
 use Rattle.std.specs.Prelude.{◌≡◌, ℕ, zero, suc, ◌+◌, ◌^◌, ◌<◌, Bool, false, cond, List, [], ◌∷◌, ◌++◌, drop, Some, None, Option, ◌==◌, ◌≢◌}
 use Rattle.model.specs.Rules.{flags}
-use Rattle.rules.specs.declared.RuleSets.{RuleSets}
+use Rattle.rules.specs.declared.texts.RuleSets.{RuleSets}
 
 -- the digits of the entries that are set, where the first entry is that of k
 unfoldable pub digits : ℕ → List Bool → List ℕ

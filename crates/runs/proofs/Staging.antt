@@ -1,7 +1,8 @@
 -- One generation after the other, with the plane kept at home.
-use Rattle.std.proofs.Common.{◌≡◌, ℕ, zero, suc, ◌+◌, ◌-◌, ◌*◌, ◌<◌, ◌≤◌, T, List, [], ◌∷◌, length, Some, None, Option, sym, refl, ap, ◌∙◌, subst, inl, inr, arith}
+use Rattle.std.proofs.Common.{◌≡◌, ℕ, zero, suc, ◌+◌, ◌-◌, ◌*◌, ◌<◌, ◌≤◌, T, List, [], ◌∷◌, length, true, Some, None, Option, Result, Ok, Err, sym, refl, ap, ◌∙◌, subst, inl, inr, arith}
 use Rattle.model.specs.Rules.{Rule, good_rule}
-use Rattle.model.specs.Cells.{Cell, in_order, same_cells}
+use Rattle.model.specs.declared.Cell.{Cell}
+use Rattle.model.specs.Cells.{in_order, same_cells}
 use Rattle.model.specs.Lists.{next_of, nexts}
 use Rattle.model.specs.declared.Period.{Period}
 use Rattle.measure.specs.declared.Shift.{Shift}
@@ -13,8 +14,10 @@ use Rattle.model.proofs.Reach.{far_nexts}
 use Rattle.model.proofs.Periods.{same_cells_lem, period_unroll}
 use Rattle.lent.specs.declared.Stretch.{Stretch}
 use Rattle.lent.specs.Stretches.{cells_in, room_words, Beside, Apart}
+use Rattle.model.specs.declared.Refusal.{Refusal}
+use Rattle.generation.specs.Scan.{NextMade}
 use Rattle.lent.proofs.Writing.{beside_cells, beside_listed}
-use Rattle.runs.specs.Stages.{Placed, Staged, Kept, world_in}
+use Rattle.runs.specs.Stages.{Placed, Staged, Kept, Stepped, world_in}
 
 placed_room : (at : ℕ) → Placed at → at + room_words ≤ 3 * room_words
 placed_room at (inl e) = omega arith
@@ -41,12 +44,12 @@ kept_beside m m' s to g a b =
     }
 
 -- the list that was made
-pub stage_made : (r : Rule) (m m' : List ℕ) (last : Stretch) (to len : ℕ) → Staged m last → Placed to → Beside to m m' → len ≤ most_cells → cells_in m' (record { at = to; len = len }) ≡ next_of r (cells_in m last) →
-    farthest (next_of r (cells_in m last)) ≤ edge → Staged m' (record { at = to; len = len })
-stage_made r m m' last to len g p b few e near =
+stage_made : (r : Rule) (m m' : List ℕ) (last t : Stretch) (to : ℕ) → Staged m last → Placed to → Beside to m m' → t.at ≡ to → t.len ≤ most_cells → cells_in m' t ≡ next_of r (cells_in m last) →
+    farthest (next_of r (cells_in m last)) ≤ edge → Staged m' t
+stage_made r m m' last t to g p b here few e near =
     let room = staged_room m last to g p in let long = b.long in let three = g.room in
     record {
-      placed = p;
+      placed = subst (λ (u : ℕ). Placed u) (sym here) p;
       few = few;
       room = omega arith;
       listed = record {
@@ -57,6 +60,11 @@ stage_made r m m' last to len g p b few e near =
       };
     }
 
+pub stage_stepped : (r : Rule) (m m' : List ℕ) (last : Stretch) (to : ℕ) (o : Result Stretch Refusal) → Staged m last → Placed to → Beside to m m' →
+    farthest (next_of r (cells_in m last)) ≤ edge → NextMade r m m' last to o → Stepped r m m' last o
+stage_stepped r m m' last to (Ok t) g p b near (here, few, e) = (stage_made r m m' last t to g p b here few e near, e)
+stage_stepped r m m' last to (Err e) g p b near h = h
+
 nexts_empty : (r : Rule) (n : ℕ) → nexts r n [] ≡ []
 nexts_empty r n = nexts_still r n [] refl
 
@@ -65,6 +73,13 @@ pub reach_near : (r : Rule) → T (good_rule r) → (n : ℕ) (cs : List Cell) �
 unfolding reach farthest
 reach_near r g n [] t k l = subst (λ (ds : List Cell). farthest ds ≤ edge) (sym (nexts_empty r k)) (omega arith)
 reach_near r g n (c ∷ cs) t k l = let f = far_nexts r g k (c ∷ cs) in let b : farthest (c ∷ cs) + n ≤ edge = grind arith in omega arith
+
+-- what the tests of a run tell
+pub told_fit : {n n' : ℕ} {cs ds : List Cell} → true ≡ reach n cs → n ≡ n' → cs ≡ ds → T (reach n' ds)
+told_fit t e f = subst T (t ∙ (λ j. reach (e j) (f j))) tt
+
+pub told_same : {a b cs ds : List Cell} → true ≡ same_cells a b → a ≡ cs → b ≡ ds → T (same_cells cs ds)
+told_same t e f = subst T (t ∙ (λ j. same_cells (e j) (f j))) tt
 
 -- the state of a run after so many generations
 pub record Running (r : Rule) (m m' : List ℕ) (home last : Stretch) (done : ℕ) : Type 0 where

@@ -1,6 +1,7 @@
 -- Runs and periods on lists: one stretch keeps the plane, of two others one is read while the other is written.
-use Rattle.std.specs.Prelude.{◌≡◌, ℕ, ◌*◌, ◌<◌, ◌≤◌, T, ◌⊎◌, List, length, Some, None, Ok, Err, Option, Result}
+use Rattle.std.specs.Prelude.{◌≡◌, ℕ, ◌*◌, ◌<◌, ◌≤◌, T, ◌⊎◌, List, length, Ok, Err, Result}
 use Rattle.model.specs.declared.Refusal.{Refusal}
+use Rattle.model.specs.declared.Refusal.TheVariants.{NoRoom}
 use Rattle.model.specs.Rules.{Rule}
 use Rattle.model.specs.World.{World, world_of, fits, most_cells}
 use Rattle.model.specs.Lists.{next_of, nexts}
@@ -29,9 +30,9 @@ pub record Kept (m m' : List ℕ) (home : Stretch) : Type 0 where
   pub same : cells_in m' home ≡ cells_in m home
 
 -- after one generation of the list `last`: where the next one is, or that it has too many cells
-abbrev pub Stepped : Rule → List ℕ → List ℕ → Stretch → Option Stretch → Type 0
-Stepped r m m' last (Some s) = Staged m' s × (cells_in m' s ≡ next_of r (cells_in m last))
-Stepped r m m' last None = most_cells < length (next_of r (cells_in m last))
+abbrev pub Stepped : Rule → List ℕ → List ℕ → Stretch → Result Stretch Refusal → Type 0
+Stepped r m m' last (Ok s) = Staged m' s × (cells_in m' s ≡ next_of r (cells_in m last))
+Stepped r m m' last (Err e) = (e ≡ NoRoom) × (most_cells < length (next_of r (cells_in m last)))
 
 -- after a run: where the plane is now, or why there is none
 abbrev pub ListRan : Rule → ℕ → List ℕ → List ℕ → Stretch → Result Stretch Refusal → Type 0

@@ -1,8 +1,7 @@
 // Runs and periods on lists of living cells.
 #![tactic(auto)]
 
-ghost use Rattle.std.specs.Prelude.{◌≡◌, ◌+◌, ◌≤◌, T};
-ghost use Rattle.model.specs.Rules.{good_rule};
+ghost use Rattle.std.specs.Prelude.{◌≡◌, ◌+◌, ◌≤◌};
 ghost use Rattle.model.specs.Lists.{next_of};
 ghost use Rattle.model.specs.World.{farthest, edge};
 ghost use Rattle.model.specs.Answers.{Recurs};
@@ -33,44 +32,41 @@ fn free_place(a: usize, b: usize) -> usize
     }
 }
 
-// The next generation of the list `last`, in a place other than its own and home. None if it has too many cells.
-fn next_stage(words: &mut Words, rule: Rule, home: Stretch, last: Stretch) -> Option<Stretch>
+// The next generation of the list `last`, in a place other than its own and home. Refused where it has too many cells.
+fn next_stage(
+    words: &mut Words,
+    rule: Rule,
+    home: Stretch,
+    last: Stretch,
+) -> Result<Stretch, Refusal>
     requires home { Staged (mem words.old) home }
     requires last { Staged (mem words.old) last }
-    requires good { T (good_rule (law rule)) }
     requires near { farthest (next_of (law rule) (cells_in (mem words.old) last)) ≤ edge }
     ensures same { Same words.old words.new }
     ensures home { Kept (mem words.old) (mem words.new) home }
     ensures last { Kept (mem words.old) (mem words.new) last }
     ensures made { Stepped (law rule) (mem words.old) (mem words.new) last result }
 {
-    let at = free_place(home.at, last.at);
-    let len = next(words, rule, last, at)?;
-    Some(Stretch { at, len })
+    next(words, rule, last, free_place(home.at, last.at))
 }
 
 // n generations of the list at home, which stays where it is. Stops early where nothing changes any more.
 pub fn run_list(words: &mut Words, rule: Rule, home: Stretch, n: u64) -> Result<Stretch, Refusal>
-    requires staged { Staged (mem words.old) home }
-    requires good { T (good_rule (law rule)) }
+    requires { Staged (mem words.old) home }
     ensures same { Same words.old words.new }
     ensures kept { Kept (mem words.old) (mem words.new) home }
     ensures ran { ListRan (law rule) n (mem words.old) (mem words.new) home result }
 {
-    if !fits(words, home, n) {
+    if !fits(words.list(home), n) {
         return Err(Refusal::Leaves);
     }
     let mut last = home;
-    let mut done = 0;
-    while done < n {
-        let Some(then) = next_stage(words, rule, home, last) else {
-            return Err(Refusal::NoRoom);
-        };
-        if same(words, last, then) {
+    for _ in 0..n {
+        let then = next_stage(words, rule, home, last)?;
+        if same(words.list(last), words.list(then)) {
             return Ok(last);
         }
         last = then;
-        done += 1;
     }
     Ok(last)
 }
@@ -82,23 +78,18 @@ pub fn period_list(
     home: Stretch,
     bound: u16,
 ) -> Result<Option<Period>, Refusal>
-    requires staged { Staged (mem words.old) home }
-    requires good { T (good_rule (law rule)) }
+    requires { Staged (mem words.old) home }
     ensures same { Same words.old words.new }
     ensures kept { Kept (mem words.old) (mem words.new) home }
     ensures recurs { Recurs bound (world_in (law rule) (mem words.old) home) result }
 {
-    if !fits(words, home, u64::from(bound)) {
+    if !fits(words.list(home), u64::from(bound)) {
         return Err(Refusal::Leaves);
     }
     let mut last = home;
-    let mut t = 0;
-    while t < u32::from(bound) {
-        let Some(then) = next_stage(words, rule, home, last) else {
-            return Err(Refusal::NoRoom);
-        };
-        t += 1;
-        if let Some(shift) = find_shift(words, home, then) {
+    for t in 1..=u32::from(bound) {
+        let then = next_stage(words, rule, home, last)?;
+        if let Some(shift) = find_shift(words.list(home), words.list(then)) {
             return Ok(Some(Period {
                 t,
                 dx: shift.dx,
@@ -106,7 +97,7 @@ pub fn period_list(
             }));
         }
         // Where nothing changes any more, nothing comes back.
-        if same(words, last, then) {
+        if same(words.list(last), words.list(then)) {
             return Ok(None);
         }
         last = then;

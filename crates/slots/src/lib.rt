@@ -1,45 +1,37 @@
 // The words of the store of squares: first the numbers that are held, then the slots of the table.
 #![tactic(auto)]
 
-ghost use Rattle.std.specs.Prelude.{◌≡◌, ◌+◌, ◌*◌, ◌%◌, ◌<◌, set};
+ghost use Rattle.std.specs.Prelude.{◌≡◌, ◌+◌, ◌*◌, ◌%◌, ◌^◌, ◌<◌, leb, set, length};
 ghost use Rattle.nodes.specs.Memory.{hold_room, base, word, tag, held_in, count_in};
-ghost use Rattle.nodes.specs.Nodes.{home_of};
+ghost use Rattle.nodes.specs.Nodes.{home_of, limit};
 ghost use Rattle.slots.specs.Stores.{mem, Same, Fixed, Laid, table};
+ghost use Rattle.slots.specs.Slots.{index_of, number_of};
+
+mod words;
 
 use nodes::Node;
+pub use words::{Note, SlotWord, State};
 
 // So many squares can be held at a time.
 pub const HOLD_ROOM: usize = 2048;
 
 pub const SLOT_WORDS: usize = 7;
 
-// The words of a slot: its tag, the halves of its node, the noted leap, a further note, and the count.
-pub const TAG: usize = 0;
-
-pub const UPPER: usize = 1;
-
-pub const LOWER: usize = 2;
-
-pub const LEAP_NOTE: usize = 3;
-
-pub const FURTHER_NOTE: usize = 4;
-
-pub const COUNT_LOW: usize = 5;
-
-pub const COUNT_HIGH: usize = 6;
-
 // A tag is the slot's state, below this number, and this more while a collection has it marked.
-pub const MARK: u64 = 128;
-
-// A note has a kind, below the first of these, and a square's number, below the second; the rest is the rule's stamp.
-pub const KINDS: u64 = 1 << 7;
-
-pub const NUMBERS: u64 = 1 << 26;
+const MARK: u64 = 128;
 
 // The key of a node is the sum of its halves, each multiplied by one of these odd numbers, which spread small differences over all bits.
 const UPPER_FACTOR: u64 = 11400714819323198485;
 
 const LOWER_FACTOR: u64 = 14029467366897019727;
+
+// So many squares a store of that many slots has at most before a collection. Some slots stay without squares, so that searches stay short.
+pub fn limit(slots: usize) -> usize
+    requires { slots < 2 ^ 26 }
+    ensures { result ≡ limit slots }
+{
+    slots - 3 * slots / 16
+}
 
 // The store for the time of a call: the memory lent to it, and its plain numbers.
 #[derive(Drop)]
@@ -69,27 +61,27 @@ impl<'a> Store<'a> {
         }
     }
 
-    fn place(&self, slot: usize, field: usize) -> usize
+    fn place(&self, slot: usize, field: SlotWord) -> usize
         requires laid { Laid self.now }
-        requires within { (slot < self.now.slots) × (field < 7) }
-        ensures is { result ≡ base self.now.at + 7 * slot + field }
+        requires within { slot < self.now.slots }
+        ensures is { result ≡ base self.now.at + 7 * slot + index_of field }
+        ensures room { result < length (mem self.now) }
     {
-        self.at + HOLD_ROOM + SLOT_WORDS * slot + field
+        self.at + HOLD_ROOM + SLOT_WORDS * slot + field as usize
     }
 
-    // Word `field` of a slot.
-    pub fn word(&self, slot: usize, field: usize) -> u64
+    pub fn word(&self, slot: usize, field: SlotWord) -> u64
         requires laid { Laid self.now }
-        requires within { (slot < self.now.slots) × (field < 7) }
-        ensures { result ≡ word self.now.at (mem self.now) slot field }
+        requires within { slot < self.now.slots }
+        ensures { result ≡ word self.now.at (mem self.now) slot (index_of field) }
     {
         self.words[self.place(slot, field)]
     }
 
-    pub fn set_word(&mut self, slot: usize, field: usize, value: u64)
+    pub fn set_word(&mut self, slot: usize, field: SlotWord, value: u64)
         requires laid { Laid self.old }
-        requires within { (slot < self.old.slots) × (field < 7) }
-        ensures after { mem self.new ≡ set (mem self.old) (base self.old.at + 7 * slot + field) value }
+        requires within { slot < self.old.slots }
+        ensures after { mem self.new ≡ set (mem self.old) (base self.old.at + 7 * slot + index_of field) value }
         ensures same { Same self.old self.new }
         ensures fixed { Fixed self.old self.new }
     {
@@ -98,15 +90,15 @@ impl<'a> Store<'a> {
     }
 
     // The number that hold k keeps.
-    pub fn held(&self, k: usize) -> u64
+    pub fn held(&self, k: usize) -> usize
         requires laid { Laid self.now }
         requires within { k < hold_room }
         ensures { result ≡ held_in self.now.at (mem self.now) k }
     {
-        self.words[self.at + k]
+        self.words[self.at + k] as usize
     }
 
-    pub fn set_held(&mut self, k: usize, number: u64)
+    pub fn set_held(&mut self, k: usize, number: usize)
         requires laid { Laid self.old }
         requires within { k < hold_room }
         ensures after { mem self.new ≡ set (mem self.old) (self.old.at + k) number }
@@ -114,16 +106,49 @@ impl<'a> Store<'a> {
         ensures fixed { Fixed self.old self.new }
     {
         let place = self.at + k;
-        self.words[place] = number;
+        self.words[place] = number as u64;
     }
 
-    // The tag of a slot without its mark.
-    pub fn state(&self, slot: usize) -> u64
+    // Whether a collection has marked the square in a slot.
+    pub fn is_marked(&self, slot: usize) -> bool
         requires laid { Laid self.now }
         requires within { slot < self.now.slots }
-        ensures { result ≡ (table self.now slot).state }
+        ensures { result ≡ leb 128 (tag self.now.at (mem self.now) slot) }
     {
-        self.word(slot, TAG) % MARK
+        self.word(slot, SlotWord::Tag) >= MARK
+    }
+
+    pub fn state(&self, slot: usize) -> State
+        requires laid { Laid self.now }
+        requires within { slot < self.now.slots }
+        ensures is { number_of result ≡ (table self.now slot).state }
+        ensures room { number_of result < 128 }
+    {
+        State::from(self.word(slot, SlotWord::Tag) % MARK)
+    }
+
+    // Gives a slot a state, without a mark.
+    pub fn set_state(&mut self, slot: usize, state: State)
+        requires laid { Laid self.old }
+        requires within { slot < self.old.slots }
+        requires room { number_of state < 128 }
+        ensures after { mem self.new ≡ set (mem self.old) (base self.old.at + 7 * slot + index_of SlotWord.Tag) (number_of state) }
+        ensures same { Same self.old self.new }
+        ensures fixed { Fixed self.old self.new }
+    {
+        self.set_word(slot, SlotWord::Tag, state.number());
+    }
+
+    // Marks the square in a slot.
+    pub fn set_marked(&mut self, slot: usize)
+        requires laid { Laid self.old }
+        requires within { slot < self.old.slots }
+        ensures after { mem self.new ≡ set (mem self.old) (base self.old.at + 7 * slot + index_of SlotWord.Tag) ((table self.old slot).state + 128) }
+        ensures same { Same self.old self.new }
+        ensures fixed { Fixed self.old self.new }
+    {
+        let state = self.state(slot);
+        self.set_word(slot, SlotWord::Tag, state.number() + MARK);
     }
 
     pub fn node(&self, slot: usize) -> Node
@@ -132,9 +157,9 @@ impl<'a> Store<'a> {
         ensures { result ≡ table self.now slot }
     {
         Node {
-            state: self.state(slot),
-            upper: self.word(slot, UPPER),
-            lower: self.word(slot, LOWER),
+            state: self.word(slot, SlotWord::Tag) % MARK,
+            upper: self.word(slot, SlotWord::Upper),
+            lower: self.word(slot, SlotWord::Lower),
         }
     }
 
@@ -144,7 +169,9 @@ impl<'a> Store<'a> {
         requires within { slot < self.now.slots }
         ensures { result ≡ count_in self.now.at (mem self.now) slot }
     {
-        u128::from(self.word(slot, COUNT_LOW)) + (u128::from(self.word(slot, COUNT_HIGH)) << 64)
+        let low = u128::from(self.word(slot, SlotWord::CountLow));
+        let high = u128::from(self.word(slot, SlotWord::CountHigh));
+        low + (high << 64)
     }
 
     // Where the search for a node begins: the key's upper half, brought down to the number of slots.

@@ -7,8 +7,8 @@ ghost use Rattle.leaf.specs.AsSquares.{word_square};
 ghost use Rattle.slots.specs.Stores.{Good, Has, Is};
 ghost use Rattle.squares.specs.Parts.{QuartersOf};
 
-use nodes::Quarters;
-use slots::{Store, UPPER};
+use model::Quarters;
+use slots::{SlotWord, State, Store};
 
 // The side of a square is 2 to the power of its level.
 pub fn level(store: &Store, number: usize) -> u64
@@ -16,11 +16,14 @@ pub fn level(store: &Store, number: usize) -> u64
     requires within { number < store.now.slots }
     ensures { (d : ℕ) → Has store.now d number → result ≡ d + 3 }
 {
-    store.state(number) + 1
+    match store.state(number) {
+        State::Square(depth) => depth as u64 + 3,
+        State::Free | State::Empty => 0,
+    }
 }
 
 // The quarters of a square that is no leaf.
-pub fn quarters(store: &Store, number: usize) -> Quarters
+pub fn quarters(store: &Store, number: usize) -> Quarters<usize>
     requires good { Good store.now }
     requires within { number < store.now.slots }
     ensures { (d : ℕ) (q : Square Bool) → Is store.now (suc d) number q → QuartersOf store.now d q result }
@@ -34,7 +37,7 @@ pub fn cells(store: &Store, number: usize) -> u64
     requires within { number < store.now.slots }
     ensures { (q : Square Bool) → Is store.now 0 number q → q ≡ word_square result }
 {
-    store.word(number, UPPER)
+    store.word(number, SlotWord::Upper)
 }
 
 // How many cells live, exactly.

@@ -1,31 +1,27 @@
 -- What the parts of a text that is read say together.
-use Rattle.std.proofs.Common.{◌≡◌, ℕ, ◌+◌, ◌-◌, ◌<◌, Bool, T, List, length, take, drop, pos, Ok, sym, ap, ◌∙◌, subst, arith, length-drop}
-use Rattle.std.proofs.lemmas.List.{take_all}
+use Rattle.std.proofs.Common.{◌≡◌, ℕ, ◌+◌, ◌<◌, Bool, List, pos, Some, Option, Ok, Err, Result, sym, ◌∙◌, subst, arith}
+use Rattle.std.specs.Result.{MatchResult}
 use Rattle.model.specs.Planes.{Plane}
-use Rattle.model.specs.Rules.{Rule as Law, rule_of, good_rule}
-use Rattle.rules.specs.declared.Rule.{Rule}
-use Rattle.rules.specs.Laws.{law, ruled}
-use Rattle.rules.specs.Texts.{rule_text}
-use Rattle.rules.proofs.Flags.{ruled_ok}
+use Rattle.model.specs.Rules.{Rule as Law, rule_of}
+use Rattle.rules.specs.declared.bits.Rule.{Rule}
+use Rattle.rules.specs.declared.texts.RuleSets.{RuleSets}
+use Rattle.model.specs.declared.Refusal.{Refusal}
+use Rattle.rules.specs.Laws.{law, IsRuled}
+use Rattle.rules.specs.Texts.{Sets}
 use Rattle.leaf.specs.Words.{cell_in}
 use Rattle.leaf.specs.Shown.{Shows16, after}
-use Rattle.squaretext.specs.Asked.{first_line, next_lines, Names, SquareText, drawn_at, MiddleOf}
+use Rattle.squaretext.specs.Asked.{first_line, Names, drawn_at, MiddleOf}
 
-pub names : (bs line : List ℕ) (b s : ℕ) → line ≡ first_line bs → (line ≡ rule_text b s) × (b < 512) × (s < 512) → Names (first_line bs) b s
-names bs line b s e h = record { text = sym e ∙ h.0; born = h.1; stays = h.2 }
+pub names : (bs line : List ℕ) (p : RuleSets) (o : Option RuleSets) → line ≡ first_line bs → o ≡ Some p → Sets line o → Names (first_line bs) p.born p.stays
+names bs line p o e f h = let q = subst (Sets line) f h in record { text = sym e ∙ q.0; born = q.1; stays = q.2 }
 
-pub good_of : (b s : ℕ) (r : Rule) → Ok r ≡ ruled b s → T (good_rule (rule_of b s))
-good_of b s r e = let k = ruled_ok b s r e in subst (λ (x : Rule). T (good_rule (law x))) k.1 k.0
+-- a rule that was made
+pub made : {T E : Type 0} (F : Type 0) (r : Result T E) (k : T) (Q : E → Type 0) → MatchResult r (λ x. ◌≡◌ {A = Result T F} (Ok k) (Ok x)) Q → ((e : E) → Q e → ⊥) → r ≡ Ok k
+made F (Ok x) k Q h n = cc
+made F (Err e) k Q h n = absurd (n e h)
 
-pub law_of : (b s : ℕ) (r : Rule) → Ok r ≡ ruled b s → law r ≡ rule_of b s
-law_of b s r e = ap law (ruled_ok b s r e).1
-
--- a slice up to the end of a text
-pub to_end : (bs : List ℕ) (m : ℕ) → drop m bs ≡ take (length bs - m) (drop m bs)
-to_end bs m = sym (take_all (length bs - m) (drop m bs) (omega (arith, length-drop m bs)))
-
-pub none_left : (bs : List ℕ) (n : ℕ) → n ≡ length bs → drop (n + 1) bs ≡ next_lines bs → SquareText (next_lines bs) → ⊥
-none_left bs n h e s = let l = s.long in let d = length-drop (n + 1) bs in let q = ap length e in omega arith
+pub ruled : (b s : ℕ) (r : Result Rule Refusal) (k : Rule) → r ≡ Ok k → IsRuled b s r → law k ≡ rule_of b s
+ruled b s r k e h = let q = subst (IsRuled b s) e h in λ i. rule_of (q.0 i) (q.1 i)
 
 pub middle_is : (sq rest : List ℕ) (r r' : Law) (nw ne sw se w : ℕ) → sq ≡ rest → r ≡ r' →
     ((u v : ℕ) → u < 8 → v < 8 → cell_in nw u v ≡ drawn_at sq (0 + u) (0 + v)) → ((u v : ℕ) → u < 8 → v < 8 → cell_in ne u v ≡ drawn_at sq (8 + u) (0 + v)) →

@@ -1,12 +1,16 @@
 // A rule and a square of side 16 as text, and its middle after four generations.
 #![tactic(auto)]
 
-ghost use Rattle.std.specs.Prelude.{◌≡◌, ℕ, ◌+◌, ◌*◌, ◌<◌, ◌≤◌, length, take, drop, Decides, slice_index};
+ghost use Rattle.std.specs.Prelude.{◌≡◌, ℕ, ◌+◌, ◌*◌, ◌<◌, ◌≤◌, Decides, slice_index, Some, ◌≢◌, MatchOption, length};
+ghost use Rattle.std.specs.List.{AllWithin};
 ghost use Rattle.leaf.specs.Words.{cell_in};
 ghost use Rattle.squaretext.specs.Asked.{first_line, next_lines, suits_place, SquareText, drawn_at, Meant, byte_of_middle, fault_text};
 
 use leaf::{cell, leap16, with_cell};
+use model::Quarters;
 use rules::{Rule, RuleSets};
+use std::error::Error;
+use std::fmt;
 
 // The eight lines of a middle.
 pub const MIDDLE_BYTES: usize = 72;
@@ -31,29 +35,33 @@ impl Fault {
     }
 }
 
+impl fmt::Display for Fault {
+    ghost output = { λ fault. Some (fault_text fault) };
+
+    fn fmt<W: fmt::Write>(&self, f: &mut fmt::Formatter<W>) -> fmt::Result {
+        f.write_str(self.text())
+    }
+}
+
+impl Error for Fault {}
+
 // The middle of the square after four generations under the rule.
 pub fn answer(input: &[u8]) -> Result<u64, Fault>
     ensures { Meant input.now result }
 {
-    let end = line_end(input);
-    let Some(sets) = RuleSets::parse(&input[..end]) else {
-        return Err(Fault::NoRule);
-    };
-    let Ok(rule) = Rule::new(sets.born, sets.stays) else {
-        return Err(Fault::BadRule);
-    };
-    if end == input.len() {
-        return Err(Fault::BadSquare);
-    }
-    let square = &input[end + 1..];
+    let (line, square) = split_line(input);
+    let sets = RuleSets::parse(line).ok_or(Fault::NoRule)?;
+    let rule = Rule::new(sets.born, sets.stays).map_err(|_| Fault::BadRule)?;
     if !is_square(square) {
         return Err(Fault::BadSquare);
     }
-    let nw = word_at(square, 0, 0);
-    let ne = word_at(square, 8, 0);
-    let sw = word_at(square, 0, 8);
-    let se = word_at(square, 8, 8);
-    Ok(leap16(rule, nw, ne, sw, se, 4))
+    let four = Quarters {
+        nw: word_at(square, 0, 0),
+        ne: word_at(square, 8, 0),
+        sw: word_at(square, 0, 8),
+        se: word_at(square, 8, 8),
+    };
+    Ok(leap16(rule, four, 4))
 }
 
 // A word as eight lines.
@@ -61,8 +69,8 @@ pub fn middle_text(w: u64) -> [u8; MIDDLE_BYTES]
     ensures { (k : ℕ) → k < 72 → slice_index result k ≡ byte_of_middle w k }
 {
     let mut text = [0; MIDDLE_BYTES];
-    for i in 0..MIDDLE_BYTES {
-        text[i] = middle_byte(w, i as u32);
+    for (place, byte) in text.iter_mut().enumerate() {
+        *byte = middle_byte(w, place as u32);
     }
     text
 }
@@ -80,32 +88,28 @@ fn middle_byte(w: u64, place: u32) -> u8
     }
 }
 
-// The place of the first line's end, which may be that of the text.
-fn line_end(text: &[u8]) -> usize
-    ensures within { result ≤ length text.now }
-    ensures line { take result text.now ≡ first_line text.now }
-    ensures rest { drop (result + 1) text.now ≡ next_lines text.now }
+// The first line, and what follows it.
+fn split_line(text: &[u8]) -> (&[u8], &[u8])
+    ensures line { result.0.now ≡ first_line text.now }
+    ensures rest { result.1.now ≡ next_lines text.now }
 {
-    for (i, b) in text.iter().enumerate() {
-        if *b == b'\n' {
-            return i;
-        }
+    match line_end(text) {
+        Some(end) => (&text[..end], &text[end + 1..]),
+        None => (text, &[]),
     }
-    text.len()
+}
+
+fn line_end(text: &[u8]) -> Option<usize>
+    ensures { MatchOption result (AllWithin (λ b. b ≢ 10) text.now 0 (length text.now)) (λ end. (end < length text.now) × (slice_index text.now end ≡ 10) × AllWithin (λ b. b ≢ 10) text.now 0 end) }
+{
+    text.iter().position(|b| *b == b'\n')
 }
 
 fn is_square(text: &[u8]) -> bool
     ensures { Decides result (SquareText text.now) }
 {
-    if text.len() < 271 || text.len() > 272 {
-        return false;
-    }
-    for (i, b) in text.iter().enumerate() {
-        if !fits_place(i, *b) {
-            return false;
-        }
-    }
-    true
+    (text.len() == 271 || text.len() == 272)
+        && text.iter().enumerate().all(|(i, b)| fits_place(i, *b))
 }
 
 fn fits_place(place: usize, byte: u8) -> bool

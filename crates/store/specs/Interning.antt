@@ -2,10 +2,10 @@
 use Rattle.std.specs.Prelude.{◌≡◌, ℕ, suc, ◌+◌, ◌-◌, ◌/◌, ◌<◌, Bool, List, Ok, Err, Result}
 use Rattle.model.specs.Squares.{Square, Four}
 use Rattle.leaf.specs.AsSquares.{word_square}
-use Rattle.nodes.specs.declared.Quarters.{Quarters}
+use Rattle.model.specs.declared.quarters.Quarters.{Quarters}
 use Rattle.nodes.specs.Nodes as nodes
 use Rattle.nodes.specs.declared.Node.{Node}
-use Rattle.probe.specs.Places.{square_in}
+use Rattle.probe.specs.Places.{Proper, square_in}
 use Rattle.nodes.specs.Memory.{base, tag, FrontAt}
 use Rattle.slots.specs.declared.Store.{Store}
 use Rattle.slots.specs.Stores.{Is, table}
@@ -17,7 +17,7 @@ pub record Only (s : Store) (d i : ℕ) (q : Square Bool) : Type 0 where
   pub only : (j : ℕ) → Is s d j q → j ≡ i
 
 -- the number of the square that is made of the quarters' squares; or the store is full: at least three quarters of its slots hold squares
-abbrev pub Interned : Store → Store → (d : ℕ) → Quarters → Result ℕ Full → Type 0
+abbrev pub Interned : Store → Store → (d : ℕ) → Quarters ℕ → Result ℕ Full → Type 0
 Interned v w d q (Ok i) =
     (a b c e : Square Bool) → Is v d q.nw a → Is v d q.ne b → Is v d q.sw c → Is v d q.se e → Only w (suc d) i (Four a b c e)
 Interned v w d q (Err _) = nodes.Full w.slots (table w)
@@ -35,6 +35,11 @@ slots_in n = (n - 2048) / 7
 abbrev pub Added : Store → Store → Node → Result ℕ Full → Type 0
 Added v w x (Ok i) = (d : ℕ) → x.state ≡ d + 2 → Is w d i (square_in (table v) d x)
 Added v w x (Err _) = nodes.Full w.slots (table w)
+
+-- a node that may stand in the table still may, and stands for the same square
+pub record NodeKept (v w : Store) (x : Node) : Type 0 where
+  pub proper : Proper w.slots (table w) x
+  pub same : (d : ℕ) → x.state ≡ d + 2 → square_in (table w) d x ≡ square_in (table v) d x
 
 -- the first n slots are empty, and the words before the slots are as they were
 pub record Cleared (a n : ℕ) (m w : List ℕ) : Type 0 where

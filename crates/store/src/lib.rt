@@ -1,23 +1,36 @@
 // The store of squares: each different square once, found by its quarters or its cells.
 #![tactic(auto)]
 
-ghost use Rattle.std.specs.Prelude.{◌≡◌, ◌+◌, ◌-◌, ◌*◌, ◌^◌, ◌<◌, ◌≤◌, length};
+ghost use Rattle.std.specs.Prelude.{◌≡◌, ◌+◌, ◌-◌, ◌*◌, ◌^◌, ◌<◌, ◌≤◌, length, Some, codes};
 ghost use Rattle.nodes.specs.Nodes.{limit};
 ghost use Rattle.nodes.specs.Memory.{FrontAt};
 ghost use Rattle.slots.specs.Stores.{mem, Same, Fixed, Cut, Laid, Good, Still, table};
 ghost use Rattle.probe.specs.Places.{Proper};
 ghost use Rattle.probe.specs.Adding.{Grown};
 ghost use Rattle.collect.specs.Collecting.{FourOf};
-ghost use Rattle.store.specs.Interning.{Interned, LeafInterned, slots_in, Added, Cleared};
+ghost use Rattle.store.specs.Interning.{Interned, LeafInterned, slots_in, Added, NodeKept, Cleared};
 
 use collect::{collect, collect_but};
-use nodes::{Node, Quarters};
+use model::Quarters;
+use nodes::Node;
 use probe::add;
-use slots::{HOLD_ROOM, SLOT_WORDS, Store, TAG};
+use slots::{HOLD_ROOM, SLOT_WORDS, State, Store, limit};
+use std::error::Error;
+use std::fmt;
 
 // The store has no room for another square.
 #[derive(Clone, Copy, PartialEq, Eq, Debug)]
-pub struct Full {}
+pub struct Full;
+
+impl fmt::Display for Full {
+    ghost output = { λ _. Some (codes "the store is full") };
+
+    fn fmt<W: fmt::Write>(&self, f: &mut fmt::Formatter<W>) -> fmt::Result {
+        f.write_str("the store is full")
+    }
+}
+
+impl Error for Full {}
 
 // A store without squares, in the words from `at` on.
 pub fn open(lent: &mut [u64], at: usize) -> Store
@@ -28,8 +41,7 @@ pub fn open(lent: &mut [u64], at: usize) -> Store
     ensures front { FrontAt at lent.old (mem result) }
 {
     let slots = (lent.len() - at - HOLD_ROOM) / SLOT_WORDS;
-    let left = slots - 3 * slots / 16;
-    let mut store = Store::new(lent, at, slots, left);
+    let mut store = Store::new(lent, at, slots, limit(slots));
     clear(&mut store);
     store
 }
@@ -41,12 +53,12 @@ fn clear(store: &mut Store)
     ensures cleared { Cleared store.old.at store.old.slots (mem store.old) (mem store.new) }
 {
     for slot in 0..store.slots {
-        store.set_word(slot, TAG, 0);
+        store.set_state(slot, State::Empty);
     }
 }
 
 // The number of the square with these quarters, which are squares of this depth: found, or made. If there is no room, what is neither held nor a quarter is forgotten first.
-pub fn intern(store: &mut Store, depth: usize, quarters: Quarters) -> Result<usize, Full>
+pub fn intern(store: &mut Store, depth: usize, quarters: Quarters<usize>) -> Result<usize, Full>
     requires good { Good store.old }
     requires four { (FourOf store.old depth quarters) × (depth < 60) }
     ensures same { Same store.old store.new }
@@ -55,12 +67,7 @@ pub fn intern(store: &mut Store, depth: usize, quarters: Quarters) -> Result<usi
     ensures top { store.new.top ≡ store.old.top }
     ensures is { Interned store.old store.new depth quarters result }
 {
-    let node = Node::four(depth, quarters);
-    if let Some(number) = add(store, node) {
-        return Ok(number);
-    }
-    collect_but(store, depth, quarters);
-    add_again(store, node)
+    intern_node(store, Node::four(depth, quarters))
 }
 
 // The number of the leaf with these cells.
@@ -72,12 +79,40 @@ pub fn intern_leaf(store: &mut Store, cells: u64) -> Result<usize, Full>
     ensures top { store.new.top ≡ store.old.top }
     ensures is { LeafInterned store.new cells result }
 {
-    let node = Node::leaf(cells);
+    intern_node(store, Node::leaf(cells))
+}
+
+fn intern_node(store: &mut Store, node: Node) -> Result<usize, Full>
+    requires good { Good store.old }
+    requires proper { Proper store.old.slots (table store.old) node }
+    ensures same { Same store.old store.new }
+    ensures good { Good store.new }
+    ensures still { Still store.old.top store.old store.new }
+    ensures top { store.new.top ≡ store.old.top }
+    ensures added { Added store.old store.new node result }
+{
     if let Some(number) = add(store, node) {
         return Ok(number);
     }
-    collect(store);
+    make_room(store, node);
     add_again(store, node)
+}
+
+// Forgets what is neither held nor a quarter of the node.
+fn make_room(store: &mut Store, node: Node)
+    requires good { Good store.old }
+    requires proper { Proper store.old.slots (table store.old) node }
+    ensures same { Same store.old store.new }
+    ensures good { Good store.new }
+    ensures still { Still store.old.top store.old store.new }
+    ensures top { store.new.top ≡ store.old.top }
+    ensures kept { NodeKept store.old store.new node }
+{
+    if node.is_leaf() {
+        collect(store);
+    } else {
+        collect_but(store, node.depth() - 1, node.quarters());
+    }
 }
 
 // Adds a node after a collection. Where that left little room the store is full, or else every few squares would cost a collection.
@@ -91,10 +126,7 @@ fn add_again(store: &mut Store, node: Node) -> Result<usize, Full>
     ensures added { Added store.old store.new node result }
 {
     if store.left < store.slots / 16 {
-        return Err(Full {});
+        return Err(Full);
     }
-    match add(store, node) {
-        Some(number) => Ok(number),
-        None => Err(Full {}),
-    }
+    add(store, node).ok_or(Full)
 }

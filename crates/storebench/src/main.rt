@@ -12,15 +12,12 @@ use collect::collect;
 use slots::Store;
 use std::time::Instant;
 use store::open;
-use trees::{Leaves, Place, grow_held, plant, sow, weave_often};
-
-const FULL: &str = "the store is full";
+use trees::{Leaves, Place, Tally, grow_held, plant, sow, weave_often};
 
 // What was done, and how long it took.
 #[derive(Clone, Copy)]
 struct Timed {
-    sum: usize,
-    collections: u64,
+    tally: Tally,
     nanos: u128,
 }
 
@@ -34,37 +31,24 @@ fn nodes(
 ) -> anyhow::Result<Timed>
     requires { (Good store.old) × (store.old.top ≡ 0) }
 {
-    let Ok(bed) = plant(store, 1) else {
-        return Err(anyhow!(FULL));
-    };
+    let bed = plant(store, 1)?;
     let before = weave_often(store, &bed, first, mask);
     let start = Instant::now(rt);
     let after = weave_often(store, &bed, turns, mask);
     bed.release(store);
     let nanos = start?.elapsed(rt)?.as_nanos();
-    match (before, after) {
-        (Ok(_), Ok(tally)) => Ok(Timed {
-            sum: tally.sum,
-            collections: tally.collections,
-            nanos,
-        }),
-        _ => Err(anyhow!(FULL)),
-    }
+    before?;
+    let tally = after?;
+    Ok(Timed { tally, nanos })
 }
 
 fn leaves(rt: &HostRuntime, store: &mut Store, turns: u64) -> anyhow::Result<Timed>
     requires { Good store.old }
 {
     let start = Instant::now(rt)?;
-    let Ok(tally) = sow(store, 1, turns) else {
-        return Err(anyhow!(FULL));
-    };
+    let tally = sow(store, 1, turns)?;
     let nanos = start.elapsed(rt)?.as_nanos();
-    Ok(Timed {
-        sum: tally.sum,
-        collections: tally.collections,
-        nanos,
-    })
+    Ok(Timed { tally, nanos })
 }
 
 // Collections, each of a store that was filled up before. Only they are timed.
@@ -72,22 +56,21 @@ fn collections(rt: &HostRuntime, store: &mut Store, turns: u64) -> anyhow::Resul
     requires { Good store.old }
     ensures { Kept store.old store.new }
 {
-    let mut timed = Timed {
-        sum: 0,
-        collections: turns,
-        nanos: 0,
-    };
+    let mut sum = 0usize;
+    let mut nanos = 0u128;
     for turn in 0..turns {
         let left = store.left as u64;
-        let Ok(tally) = sow(store, turn, left) else {
-            return Err(anyhow!(FULL));
-        };
-        timed.sum = timed.sum.wrapping_add(tally.sum);
+        let tally = sow(store, turn, left)?;
+        sum = sum.wrapping_add(tally.sum);
         let start = Instant::now(rt)?;
         collect(store);
-        timed.nanos = timed.nanos.wrapping_add(start.elapsed(rt)?.as_nanos());
+        nanos = nanos.wrapping_add(start.elapsed(rt)?.as_nanos());
     }
-    Ok(timed)
+    let tally = Tally {
+        sum,
+        collections: turns,
+    };
+    Ok(Timed { tally, nanos })
 }
 
 // Holds a tree of about half of the squares that there is room for, and collects.
@@ -98,16 +81,14 @@ fn half_held(rt: &HostRuntime, store: &mut Store, depth: usize, turns: u64) -> a
         seed: 1,
         kinds: 1 << (2 * depth),
     };
-    let Ok(tree) = grow_held(store, kinds, depth, Place { x: 0, y: 0 }, 0) else {
-        return Err(anyhow!(FULL));
-    };
+    let tree = grow_held(store, kinds, depth, Place { x: 0, y: 0 }, 0)?;
     let timed = collections(rt, store, turns);
     tree.release(store);
     timed
 }
 
 fn run(rt: &HostRuntime, what: &str, log: u32, turns: u64) -> anyhow::Result<Timed> {
-    if log < 12 || log > 28 {
+    if !(12..=28).contains(&log) {
         return Err(anyhow!("too few words, or too many"));
     }
     let mut words = vec![in rt.alloc(); 0u64; 1 << log]?;
@@ -133,7 +114,7 @@ fn main(rt: HostRuntime) -> anyhow::Result<()> {
     let timed = run(&rt, what, log.parse::<u32>()?, turns)?;
     println!(rt;
         "{what} {log} {turns}: sum {}, collections {}",
-        timed.sum, timed.collections
+        timed.tally.sum, timed.tally.collections
     )?;
     eprintln!(rt; "{} ns", timed.nanos / u128::from(turns.max(1)))?;
     Ok(())

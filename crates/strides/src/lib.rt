@@ -3,47 +3,34 @@
 
 ghost use Rattle.std.specs.Prelude.{suc, ◌+◌, ◌<◌, false};
 ghost use Rattle.model.specs.Squares.{padded};
-ghost use Rattle.rules.specs.Laws.{law};
 ghost use Rattle.slots.specs.Stores.{Same};
 ghost use Rattle.pieces.specs.Nine.{Outcome, Given};
 ghost use Rattle.strides.specs.Striding.{leap_once, stride_of, Stride, Padding, Lone};
 
 use advance::advance_number;
-use holds::Hold;
+use notes::Leap;
 use pads::pad;
-use rules::Rule;
+use pieces::while_held;
 use slots::Store;
 use store::Full;
 
-// What the held square, with nothing around it, is after 2^exponent generations. `below` is the depth of its quarters, and what comes back is one deeper than the square.
-pub fn stride(
-    store: &mut Store,
-    rule: Rule,
-    exponent: usize,
-    below: usize,
-    place: usize,
-) -> Result<usize, Full>
-    requires { Stride store.old rule exponent below place }
+// What the held square, with nothing around it, is after the leap's generations. `below` is the depth of its quarters, and what comes back is one deeper than the square.
+pub fn stride(store: &mut Store, leap: Leap, below: usize, place: usize) -> Result<usize, Full>
+    requires { Stride store.old leap below place }
     ensures same { Same store.old store.new }
-    ensures stride { Outcome store.old store.new (suc below) (suc (suc below)) place (stride_of (law rule) exponent below) result }
+    ensures stride { Outcome store.old store.new (suc below) (suc (suc below)) place (stride_of leap below) result }
 {
     let once = pad(store, below, place)?;
-    pad_and_leap(store, rule, exponent, below, once)
+    pad_and_leap(store, leap, below, once)
 }
 
-fn pad_and_leap(
-    store: &mut Store,
-    rule: Rule,
-    exponent: usize,
-    below: usize,
-    number: usize,
-) -> Result<usize, Full>
-    requires { Padding store.old rule exponent below number }
+fn pad_and_leap(store: &mut Store, leap: Leap, below: usize, number: usize) -> Result<usize, Full>
+    requires { Padding store.old leap below number }
     ensures same { Same store.old store.new }
-    ensures leap { Given store.old store.new (suc (suc below)) (suc (suc below)) number (leap_once (law rule) exponent below) result }
+    ensures leap { Given store.old store.new (suc (suc below)) (suc (suc below)) number (leap_once leap below) result }
 {
     let padded = pad_number(store, below, number)?;
-    advance_number(store, rule, exponent, below + 2, padded)
+    advance_number(store, leap, below + 2, padded)
 }
 
 // A square of depth below + 2 that isn't held, with nothing around it.
@@ -52,8 +39,5 @@ fn pad_number(store: &mut Store, below: usize, number: usize) -> Result<usize, F
     ensures same { Same store.old store.new }
     ensures padded { Given store.old store.new (suc (suc below)) (suc (suc (suc below))) number (padded false (suc (suc (suc (suc below))))) result }
 {
-    let hold = Hold::take(store, number);
-    let whole = pad(store, below + 1, store.top - 1);
-    hold.release(store);
-    whole
+    while_held(store, number, |store, place| pad(store, below + 1, place))
 }

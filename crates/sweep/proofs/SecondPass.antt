@@ -74,18 +74,18 @@ node_was {v = v} {w = w} s i b =
     (λ t. view (s.fixed.at t) (mem w) i) ∙
     view_same v.at (mem v) (mem w) i (ap (λ (z : ℕ). z % 128) (s.retagged.before i b)) (s.retagged.rest i 1 (omega arith) (omega arith)) (s.retagged.rest i 2 (omega arith) (omega arith))
 
-pub retagging_kept : {v w u : Store} {k l h r : ℕ} {n : Node} → Laid v → 0 < k → k ≤ v.slots → Retagging v w k l → true ≡ leb 128 (tag w.at (mem w) (k - 1)) →
-    n ≡ table w (k - 1) → h ≡ home_of w.slots n → r ≡ min l h →
-    Same w u → Fixed w u → mem u ≡ set (mem w) (base w.at + 7 * (k - 1) + 0) n.state → Retagging v u (k - 1) r
-retagging_kept {v = v} {w = w} {u = u} {k = k} {l = l} {r = r} laid p q s e i j g a b c =
+pub retagging_kept : {v w u : Store} {k l h r x : ℕ} {n : Node} → Laid v → 0 < k → k ≤ v.slots → Retagging v w k l → true ≡ leb 128 (tag w.at (mem w) (k - 1)) →
+    n ≡ table w (k - 1) → h ≡ home_of w.slots n → r ≡ min l h → x ≡ (table w (k - 1)).state →
+    Same w u → Fixed w u → mem u ≡ set (mem w) (base w.at + 7 * (k - 1) + 0) x → Retagging v u (k - 1) r
+retagging_kept {v = v} {w = w} {u = u} {k = k} {l = l} {r = r} laid p q s e i j g f a b c =
     let m = true-leb 128 (tag v.at (mem v) (k - 1)) (e ∙ ap (leb 128) (tag_was s (k - 1) (omega arith))) in
-    let node = i ∙ node_was s (k - 1) (omega arith) in
+    let was = node_was s (k - 1) (omega arith) in let node = i ∙ was in
     let home = j ∙ (λ z. home_of (s.fixed.slots z) (node z)) in
     let fits = laid.fits in
     record {
       same = a ∙ s.same;
       fixed = fixed_trans s.fixed b;
-      retagged = subst (RetaggedAt v.at v.slots (k - 1) (mem v)) (sym (c ∙ (λ z. put (s.fixed.at z) (mem w) (k - 1) 0 (node z).state)))
+      retagged = subst (RetaggedAt v.at v.slots (k - 1) (mem v)) (sym (c ∙ (λ z. put w.at (mem w) (k - 1) 0 (f z)) ∙ (λ z. put (s.fixed.at z) (mem w) (k - 1) 0 (was z).state)))
           (retagged_more v.at v.slots k (mem v) (mem w) (table v (k - 1)).state s.retagged p (omega arith)
           (new_kept v.slots (tag v.at (mem v)) (homes v.slots (table v)) (k - 1) _ m (view_state v.at (mem v) (k - 1))));
       least = subst (Least v.slots (k - 1) (tag v.at (mem v)) (homes v.slots (table v))) (sym (g ∙ ap (min l) home))

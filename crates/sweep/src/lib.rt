@@ -5,14 +5,10 @@ ghost use Rattle.std.specs.Prelude.{◌≡◌, ◌||◌, ◌^◌, ◌<◌, ◌�
 ghost use Rattle.nodes.specs.Memory.{tag};
 ghost use Rattle.nodes.specs.Marking.{MarkedAt, StaysAt};
 ghost use Rattle.slots.specs.Stores.{mem, Same, Fixed, Cut, Laid, Good, table};
+ghost use Rattle.slots.specs.Slots.{index_of};
 ghost use Rattle.sweep.specs.Sweeps.{naming, with_trimmed, homes, Found, survey_with, TrimmedAt, RetaggedAt, SweptAt};
 
-use slots::{FURTHER_NOTE, KINDS, LEAP_NOTE, MARK, NUMBERS, Store, TAG};
-
-// The tags of slots without squares: a search ends at an empty one and goes on past a free one.
-const EMPTY: u64 = 0;
-
-const FREE: u64 = 1;
+use slots::{Note, SlotWord, State, Store, limit};
 
 // What the first pass finds out about the marked slots.
 #[derive(Clone, Copy)]
@@ -46,34 +42,22 @@ impl Survey {
     }
 }
 
-fn is_marked(store: &Store, slot: usize) -> bool
-    requires laid { Laid store.now }
-    requires within { slot < store.now.slots }
-    ensures { result ≡ leb 128 (tag store.now.at (mem store.now) slot) }
-{
-    store.word(slot, TAG) >= MARK
-}
-
-// Whether the square that a note names is marked, if it names one.
-fn names_marked(store: &Store, note: u64) -> bool
+// Whether the square that a word's note names is marked, if there is a note.
+fn names_marked(store: &Store, word: u64) -> bool
     requires { Laid store.now }
-    ensures { result ≡ naming store.now.at store.now.slots (mem store.now) note }
+    ensures { result ≡ naming store.now.at store.now.slots (mem store.now) word }
 {
-    if note % KINDS == 0 {
-        return true;
+    match Note::in_word(word) {
+        Some(note) => note.number < store.slots && store.is_marked(note.number),
+        None => true,
     }
-    let number = (note / KINDS % NUMBERS) as usize;
-    if number >= store.slots {
-        return false;
-    }
-    is_marked(store, number)
 }
 
 // A note stays if the square that it names does.
-fn trim_note(store: &mut Store, slot: usize, field: usize)
+fn trim_note(store: &mut Store, slot: usize, field: SlotWord)
     requires laid { Laid store.old }
-    requires within { (slot < store.old.slots) × (field < 7) }
-    ensures after { mem store.new ≡ with_trimmed store.old.at store.old.slots (mem store.old) slot field }
+    requires within { slot < store.old.slots }
+    ensures after { mem store.new ≡ with_trimmed store.old.at store.old.slots (mem store.old) slot (index_of field) }
     ensures same { Same store.old store.new }
     ensures fixed { Fixed store.old store.new }
 {
@@ -97,9 +81,9 @@ fn trim(store: &mut Store) -> Survey
         high: 0,
     };
     for slot in 0..store.slots {
-        if is_marked(store, slot) {
-            trim_note(store, slot, LEAP_NOTE);
-            trim_note(store, slot, FURTHER_NOTE);
+        if store.is_marked(slot) {
+            trim_note(store, slot, SlotWord::LeapNote);
+            trim_note(store, slot, SlotWord::FurtherNote);
             survey = survey.with_slot(slot, store.home(store.node(slot)));
         }
     }
@@ -117,14 +101,13 @@ fn retag(store: &mut Store, survey: Survey)
 {
     let mut least = store.slots;
     for slot in (0..store.slots).rev() {
-        if is_marked(store, slot) {
-            let node = store.node(slot);
-            least = least.min(store.home(node));
-            store.set_word(slot, TAG, node.state);
+        if store.is_marked(slot) {
+            least = least.min(store.home(store.node(slot)));
+            store.set_state(slot, store.state(slot));
         } else if survey.passes(slot, least) {
-            store.set_word(slot, TAG, FREE);
+            store.set_state(slot, State::Free);
         } else {
-            store.set_word(slot, TAG, EMPTY);
+            store.set_state(slot, State::Empty);
         }
     }
 }
@@ -140,6 +123,5 @@ pub fn sweep(store: &mut Store)
 {
     let survey = trim(store);
     retag(store, survey);
-    // Some slots stay without squares, so that searches stay short.
-    store.left = store.slots - 3 * store.slots / 16 - survey.count;
+    store.left = limit(store.slots) - survey.count;
 }

@@ -1,5 +1,5 @@
 -- Squares that are held one after another while more of them are made.
-use Rattle.std.proofs.Common.{◌≡◌, ℕ, ◌+◌, ◌<◌, ◌≤◌, Bool, false, sym, refl, ap, ◌∙◌, subst, arith, below_more}
+use Rattle.std.proofs.Common.{◌≡◌, ℕ, ◌+◌, ◌<◌, ◌≤◌, Bool, false, Ok, Err, Result, sym, refl, ap, ◌∙◌, subst, arith, below_more}
 use Rattle.model.specs.Squares.{Square}
 use Rattle.nodes.specs.Nodes.{square_of}
 use Rattle.slots.specs.declared.Store.{Store}
@@ -7,7 +7,8 @@ use Rattle.slots.specs.Stores.{Same, Good, Has, Is, Still, table}
 use Rattle.holds.specs.declared.Hold.{Hold}
 use Rattle.holds.specs.Holding.{held, Pushed, Popped}
 use Rattle.holds.proofs.Chain.{still_refl, still_less, still_trans, is_still, keeping_new}
-use Rattle.trees.specs.Growing.{Kept, Taken, Holds, Each}
+use Rattle.store.specs.declared.Full.{Full}
+use Rattle.trees.specs.Growing.{Kept, Taken, TakenOr, Holds, Each}
 
 still_on : {v w u : Store} {t : ℕ} → Still t v w → t ≤ w.top → Still w.top w u → Still t v u
 still_on p l q = still_trans p (still_less l q)
@@ -118,3 +119,8 @@ row_one {w = w} {h = h} {d = d} p q e a b f = let m = b.len in record {
   len = m;
   each = below_more (λ j. Is w d (held w (h.from + j)) (q j)) 0 (λ j l. absurd (omega arith)) (subst (Is w d (held w (h.from + 0))) (sym e) (f 0 (omega arith)));
 }
+
+-- the store is as good as it was, whether or not there was room
+pub good_or : (v w : Store) (n d : ℕ) (p : ℕ → Square Bool) (r : Result Hold Full) → TakenOr v w n d p r → Good w
+good_or v w n d p (Ok h) t = t.0.good
+good_or v w n d p (Err _) t = t.0.good

@@ -1,24 +1,18 @@
 -- Trees of squares whose cells come from a seed, and what is held while they are grown.
-use Rattle.std.specs.Prelude.{◌≡◌, ℕ, zero, suc, ◌+◌, ◌*◌, ◌/◌, ◌%◌, ◌^◌, ◌<◌, ◌≤◌, Bool, cond, Ok, Err, Result, MatchBool, ◌==◌}
+use Rattle.std.specs.Prelude.{◌≡◌, ℕ, zero, suc, ◌+◌, ◌*◌, ◌/◌, ◌%◌, ◌^◌, ◌<◌, ◌≤◌, Bool, cond, Ok, Err, Result, MatchOption, ◌==◌}
 use Rattle.model.specs.Squares.{Square, Four}
 use Rattle.leaf.specs.AsSquares.{word_square}
-use Rattle.nodes.specs.declared.Quarters.{Quarters}
+use Rattle.model.specs.declared.quarters.Quarters.{Quarters}
 use Rattle.nodes.specs.Nodes as nodes
 use Rattle.slots.specs.declared.Store.{Store}
 use Rattle.slots.specs.Stores.{Same, Good, Has, Is, Still, table}
 use Rattle.holds.specs.declared.Hold.{Hold}
-use Rattle.holds.specs.Holding.{held, Last}
+use Rattle.holds.specs.Holding.{held, Last, Pushed, Popped}
 use Rattle.store.specs.declared.Full.{Full}
-use Rattle.trees.specs.declared.Leaves.{Leaves}
-use Rattle.trees.specs.declared.Place.{Place}
+use Rattle.trees.specs.declared.seeds.Leaves.{Leaves}
+use Rattle.trees.specs.declared.seeds.Place.{Place}
 use Rattle.trees.specs.declared.Grove.{Grove}
-
--- a number whose bits depend on all lower bits of n
-abbrev pub spread : ℕ → ℕ → ℕ
-spread k n = (n * k % 2 ^ 64 + n * k % 2 ^ 64 / 2 ^ 32) % 2 ^ 64
-
-unfoldable pub mix : ℕ → ℕ → ℕ
-mix a b = spread 13787848793156543929 (spread 11400714819323198485 ((a + b) % 2 ^ 64))
+use Rattle.trees.specs.Mixed.{mix}
 
 -- the cells of a leaf of the k-th kind; every fourth kind is empty
 abbrev pub kind_cells : ℕ → ℕ → ℕ
@@ -74,6 +68,13 @@ pub record Holds (s : Store) (h : Hold) (n d : ℕ) : Type 0 where
 abbrev pub Each : Store → Hold → (d : ℕ) → (ℕ → Square Bool) → Type 0
 Each s h d p = (j : ℕ) → j < h.len → Is s d (held s (h.from + j)) (p j)
 
+-- one square more is held, or the hold was let go and the refusal is passed on
+abbrev pub HeldAlso : Store → Store → Hold → (made : Result ℕ Full) → Result Hold Full → Type 0
+HeldAlso v w h (Ok i) (Ok g) = Same v w × Good w × Pushed v w i × (g ≡ record { from = h.from; len = h.len + 1; done = h.done })
+HeldAlso v w h (Err _) (Err _) = Same v w × Good w × Popped h.from v w
+HeldAlso v w h (Ok _) (Err _) = ⊥
+HeldAlso v w h (Err _) (Ok _) = ⊥
+
 -- a hold of n squares of depth d was taken, the j-th of which is p j; or the store is full
 abbrev pub TakenOr : Store → Store → (n d : ℕ) → (ℕ → Square Bool) → Result Hold Full → Type 0
 TakenOr v w n d p (Ok h) = Taken v w v.top h × Holds w h n d × Each w h d p
@@ -81,11 +82,11 @@ TakenOr v w n d p (Err _) = Kept v w × IsFull w
 
 -- a hold of n trees was taken, or of fewer, and the store is full; or it is full before the first
 abbrev pub GroveOr : Store → Store → (n d : ℕ) → (ℕ → Square Bool) → Result Grove Full → Type 0
-GroveOr v w n d p (Ok r) = Taken v w v.top r.hold × (r.hold.len ≤ n) × Each w r.hold d p × MatchBool r.full (IsFull w) (r.hold.len ≡ n)
+GroveOr v w n d p (Ok r) = Taken v w v.top r.hold × (r.hold.len ≤ n) × Each w r.hold d p × MatchOption r.refusal (r.hold.len ≡ n) (λ _. IsFull w)
 GroveOr v w n d p (Err _) = Kept v w × IsFull w
 
 -- the four squares of a bed that a key names
-abbrev pub woven : Store → Hold → ℕ → Quarters
+abbrev pub woven : Store → Hold → ℕ → Quarters ℕ
 woven s h key = record {
   nw = held s (h.from + key % 1024);
   ne = held s (h.from + key / 1024 % 1024);

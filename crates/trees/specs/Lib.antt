@@ -1,1 +1,2 @@
+pub mod Mixed
 pub mod Growing

@@ -1,78 +1,24 @@
 // Trees of squares for tests and measurements. Their cells come from a seed.
 #![tactic(auto)]
 
-ghost use Rattle.std.specs.Prelude.{◌≡◌, ◌+◌, ◌-◌, ◌*◌, ◌/◌, ◌%◌, ◌^◌, ◌<◌, ◌≤◌, if◌then◌else◌, MatchResult};
+mod seeds;
+
+ghost use Rattle.std.specs.Prelude.{ℕ, Err, ◌≡◌, ◌+◌, ◌-◌, ◌*◌, ◌/◌, ◌%◌, ◌^◌, ◌<◌, ◌≤◌, if◌then◌else◌, MatchResult};
+ghost use Rattle.std.specs.Result.{ForOk};
 ghost use Rattle.nodes.specs.Memory.{hold_room};
 ghost use Rattle.leaf.specs.AsSquares.{word_square};
-ghost use Rattle.slots.specs.Stores.{Good};
+ghost use Rattle.slots.specs.Stores.{Good, table};
+ghost use Rattle.holds.specs.Holding.{Last};
 ghost use Rattle.store.specs.Interning.{Interned};
-ghost use Rattle.trees.specs.Growing.{mix, spread, cells_at, quarter_at, grown, Inside, Kept, IsFull, Made, Holds, TakenOr, GroveOr, woven};
+ghost use Rattle.trees.specs.Mixed.{mix};
+ghost use Rattle.trees.specs.Growing.{grown, Inside, Kept, IsFull, Made, Holds, HeldAlso, TakenOr, GroveOr, woven};
 
 use holds::Hold;
-use nodes::Quarters;
+use model::Quarters;
+use seeds::FIRST_FACTOR;
+pub use seeds::{Leaves, Place, mix};
 use slots::Store;
 use store::{Full, intern, intern_leaf};
-
-// Odd numbers that spread small differences over all bits.
-const FIRST_FACTOR: u64 = 11400714819323198485;
-
-const SECOND_FACTOR: u64 = 13787848793156543929;
-
-fn spread(n: u64, factor: u64) -> u64
-    ensures { result ≡ spread factor n }
-{
-    let product = n.wrapping_mul(factor);
-    product.wrapping_add(product >> 32)
-}
-
-// A number that looks random, from two numbers.
-pub fn mix(a: u64, b: u64) -> u64
-    ensures { result ≡ mix a b }
-{
-    spread(spread(a.wrapping_add(b), FIRST_FACTOR), SECOND_FACTOR)
-}
-
-// Where a square lies among squares of its size.
-#[derive(Clone, Copy)]
-pub struct Place {
-    pub x: u64,
-    pub y: u64,
-}
-
-impl Place {
-    // The place of its k-th quarter, row by row.
-    pub fn quarter(self, k: usize) -> Place
-        requires { (Inside 40 self) × (k < 4) }
-        ensures { result ≡ quarter_at self k }
-    {
-        Place {
-            x: 2 * self.x + k as u64 % 2,
-            y: 2 * self.y + k as u64 / 2,
-        }
-    }
-}
-
-// Which cells there are at the leaves of a tree.
-#[derive(Clone, Copy)]
-pub struct Leaves {
-    pub seed: u64,
-    // so many different leaves there are at most; the fewer, the more squares are the same
-    pub kinds: u64,
-}
-
-impl Leaves {
-    pub fn cells(self, place: Place) -> u64
-        requires { 0 < self.kinds }
-        ensures { result ≡ cells_at self place }
-    {
-        let kind = mix(mix(self.seed, place.x), place.y) % self.kinds;
-        if kind % 4 == 0 {
-            0
-        } else {
-            mix(self.seed, kind)
-        }
-    }
-}
 
 // The tree of this depth at a place. The lowest digit of `order` to the base 4 says with which quarter to begin, the others are for the quarters.
 pub fn grow(
@@ -84,7 +30,7 @@ pub fn grow(
 ) -> Result<usize, Full>
     requires good { Good store.old }
     requires room { store.old.top + 4 * depth ≤ hold_room }
-    requires inside { (depth ≤ 40) × ((Inside (40 - depth) place) × (0 < leaves.kinds)) }
+    requires inside { (depth ≤ 40) × (Inside (40 - depth) place) }
     ensures kept { Kept store.old store.new }
     ensures is { Made store.new depth (grown leaves depth place) result }
 {
@@ -95,29 +41,35 @@ pub fn grow(
     let number = grow(store, leaves, depth - 1, place.quarter(first), order / 4)?;
     let mut hold = Hold::take(store, number);
     for k in 1..4 {
-        match grow(
-            store,
-            leaves,
-            depth - 1,
-            place.quarter((first + k) % 4),
-            order / 4,
-        ) {
-            Ok(number) => hold.add(store, number),
-            Err(full) => {
-                hold.release(store);
-                return Err(full);
-            }
-        }
+        let next = place.quarter((first + k) % 4);
+        let made = grow(store, leaves, depth - 1, next, order / 4);
+        hold = hold_also(hold, store, made)?;
     }
-    let quarters = Quarters {
-        nw: hold.number(store, (4 - first) % 4),
-        ne: hold.number(store, (5 - first) % 4),
-        sw: hold.number(store, (6 - first) % 4),
-        se: hold.number(store, (7 - first) % 4),
-    };
+    let quarters = Quarters::of(|row, column| {
+        hold.number(store, (4 + 2 * row + column - first) % 4)
+    });
     let made = intern(store, depth - 1, quarters);
     hold.release(store);
     made
+}
+
+// Holds what was made too, or, if the store was full, lets go of what is held.
+fn hold_also(mut hold: Hold, store: &mut Store, made: Result<usize, Full>) -> Result<Hold, Full>
+    requires good { Good store.old }
+    requires made { ForOk made (λ i. (i < store.old.slots) × (2 ≤ (table store.old i).state)) }
+    requires room { (store.old.top < hold_room) × (Last store.old hold) }
+    ensures { HeldAlso store.old store.new hold made result }
+{
+    match made {
+        Ok(number) => {
+            hold.add(store, number);
+            Ok(hold)
+        }
+        Err(full) => {
+            hold.release(store);
+            Err(full)
+        }
+    }
 }
 
 // Grows a tree and holds it.
@@ -130,7 +82,7 @@ pub fn grow_held(
 ) -> Result<Hold, Full>
     requires good { Good store.old }
     requires room { store.old.top + 4 * depth < hold_room }
-    requires inside { (depth ≤ 40) × ((Inside (40 - depth) place) × (0 < leaves.kinds)) }
+    requires inside { (depth ≤ 40) × (Inside (40 - depth) place) }
     ensures { TakenOr store.old store.new 1 depth (λ _. grown leaves depth place) result }
 {
     let number = grow(store, leaves, depth, place, order)?;
@@ -141,45 +93,45 @@ pub fn grow_held(
 pub fn churn(store: &mut Store, leaves: Leaves, depth: usize, trees: u64) -> Result<u64, Full>
     requires good { Good store.old }
     requires room { store.old.top + 4 * depth ≤ hold_room }
-    requires inside { (depth < 20) × ((trees < 2 ^ 20) × (0 < leaves.kinds)) }
+    requires inside { (depth < 20) × (trees < 2 ^ 20) }
     ensures kept { Kept store.old store.new }
     ensures most { MatchResult result (λ n. n ≤ trees) (λ _. IsFull store.new) }
 {
-    let mut collections = 0u64;
-    for x in 0..trees {
-        let left = store.left;
-        grow(store, leaves, depth, Place { x, y: 0 }, x)?;
-        if store.left > left {
-            collections = collections.wrapping_add(1);
-        }
-    }
-    Ok(collections)
+    let tally = often(store, trees, |store, x| {
+        grow(store, leaves, depth, Place { x, y: 0 }, x)
+    })?;
+    Ok(tally.collections)
 }
 
-// All trees that there was room for.
+// All trees that there was room for, and the refusal of the next, where one was refused.
 pub struct Grove {
     pub hold: Hold,
-    // and then the store was full
-    pub full: bool,
+    pub refusal: Option<Full>,
 }
 
 // Grows trees one after another and holds all of them, as long as there is room, or as many as said.
 pub fn grow_many(store: &mut Store, leaves: Leaves, depth: usize, trees: u64) -> Result<Grove, Full>
     requires good { Good store.old }
     requires room { store.old.top + 4 * depth + trees ≤ hold_room }
-    requires inside { (depth < 20) × ((0 < trees) × (0 < leaves.kinds)) }
+    requires inside { (depth < 20) × (0 < trees) }
     ensures { GroveOr store.old store.new trees depth (λ x. grown leaves depth (record { x = x; y = 0 })) result }
 {
     let mut hold = grow_held(store, leaves, depth, Place { x: 0, y: 0 }, 0)?;
     for x in 1..trees {
         match grow(store, leaves, depth, Place { x, y: 0 }, x) {
             Ok(number) => hold.add(store, number),
-            Err(_) => {
-                return Ok(Grove { hold, full: true });
+            Err(full) => {
+                return Ok(Grove {
+                    hold,
+                    refusal: Some(full),
+                });
             }
         }
     }
-    Ok(Grove { hold, full: false })
+    Ok(Grove {
+        hold,
+        refusal: None,
+    })
 }
 
 // So many leaves are held together, a bed; nodes are made over four of them.
@@ -193,13 +145,8 @@ pub fn plant(store: &mut Store, seed: u64) -> Result<Hold, Full>
     let number = intern_leaf(store, mix(seed, 0))?;
     let mut hold = Hold::take(store, number);
     for k in 1..BED {
-        match intern_leaf(store, mix(seed, k)) {
-            Ok(number) => hold.add(store, number),
-            Err(full) => {
-                hold.release(store);
-                return Err(full);
-            }
-        }
+        let made = intern_leaf(store, mix(seed, k));
+        hold = hold_also(hold, store, made)?;
     }
     Ok(hold)
 }
@@ -222,7 +169,7 @@ pub fn weave(store: &mut Store, bed: &Hold, key: u64) -> Result<usize, Full>
 }
 
 // What a loop of interns did.
-#[derive(Clone, Copy)]
+#[derive(Clone, Copy, Default, PartialEq, Eq, Debug)]
 pub struct Tally {
     // the sum of the numbers
     pub sum: usize,
@@ -230,11 +177,6 @@ pub struct Tally {
 }
 
 impl Tally {
-    const NONE: Tally = Tally {
-        sum: 0,
-        collections: 0,
-    };
-
     // One intern more, which gave this number.
     fn add(&mut self, number: usize, collected: bool)
         requires { self.old.collections < 2 ^ 64 - 1 }
@@ -248,6 +190,28 @@ impl Tally {
     }
 }
 
+// Takes a step for each turn, and tallies the numbers that come back.
+fn often<F: Fn(&mut Store, u64) -> Result<usize, Full>>(
+    store: &mut Store,
+    turns: u64,
+    step: F,
+) -> Result<Tally, Full>
+    requires good { Good store.old }
+    requires callable { (w : _) (turn : ℕ) → turn < turns → Kept store.old w.now → F.pre step w turn }
+    requires steady { (w : _) (turn : ℕ) (r : _) (w' : _) → F.post step w turn r w' → Kept w.now w'.now }
+    requires full { (w : _) (turn : ℕ) (full : _) (w' : _) → F.post step w turn (Err full) w' → IsFull w'.now }
+    ensures kept { Kept store.old store.new }
+    ensures most { MatchResult result (λ t. t.collections ≤ turns) (λ _. IsFull store.new) }
+{
+    let mut tally = Tally::default();
+    for turn in 0..turns {
+        let left = store.left;
+        let number = step(store, turn)?;
+        tally.add(number, store.left > left);
+    }
+    Ok(tally)
+}
+
 // Interns so many nodes. The mask is a power of two less 1; so many turns and one go through all nodes that there are, in an order without order.
 pub fn weave_often(store: &mut Store, bed: &Hold, turns: u64, mask: u64) -> Result<Tally, Full>
     requires good { Good store.old }
@@ -256,14 +220,10 @@ pub fn weave_often(store: &mut Store, bed: &Hold, turns: u64, mask: u64) -> Resu
     ensures bed { Holds store.new bed.now 1024 0 }
     ensures most { MatchResult result (λ t. t.collections ≤ turns) (λ _. IsFull store.new) }
 {
-    let mut tally = Tally::NONE;
-    for turn in 0..turns {
-        let left = store.left;
+    often(store, turns, |store, turn| {
         let node = turn.wrapping_mul(FIRST_FACTOR) & mask;
-        let number = weave(store, bed, mix(node, 0))?;
-        tally.add(number, store.left > left);
-    }
-    Ok(tally)
+        weave(store, bed, mix(node, 0))
+    })
 }
 
 // Interns so many leaves, each different.
@@ -272,11 +232,7 @@ pub fn sow(store: &mut Store, seed: u64, turns: u64) -> Result<Tally, Full>
     ensures kept { Kept store.old store.new }
     ensures most { MatchResult result (λ t. t.collections ≤ turns) (λ _. IsFull store.new) }
 {
-    let mut tally = Tally::NONE;
-    for turn in 0..turns {
-        let left = store.left;
-        let number = intern_leaf(store, mix(seed, turn))?;
-        tally.add(number, store.left > left);
-    }
-    Ok(tally)
+    often(store, turns, |store, turn| {
+        intern_leaf(store, mix(seed, turn))
+    })
 }

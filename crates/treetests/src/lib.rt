@@ -8,8 +8,9 @@ ghost use Rattle.trees.specs.Growing.{Kept, Holds};
 #[cfg(test)]
 mod tests {
     use holds::Hold;
-    use slots::Store;
-    use squares::{cells, count, level, quarters};
+    use pieces::quarter;
+    use slots::{State, Store};
+    use squares::{cells, count, level};
     use std::test::Fail;
     use store::{Full, open};
     use trees::{Grove, Leaves, Place, churn, grow, grow_held, grow_many};
@@ -40,19 +41,21 @@ mod tests {
         ((word >> (y % 8 * 8 + x % 8)) & 1) as u8
     }
 
-    // The cells of a tree without a store, one byte each, by rows.
-    fn paint(grid: &mut [u8], leaves: Leaves)
-        requires { (length grid.old ≡ 16384) × (0 < leaves.kinds) }
-    {
-        for y in 0..SIDE {
-            for x in 0..SIDE {
-                let place = Place {
-                    x: x as u64 / 8,
-                    y: y as u64 / 8,
-                };
-                grid[y * SIDE + x] = bit(leaves.cells(place), x, y);
-            }
-        }
+    const CELLS: usize = SIDE * SIDE;
+
+    // The cells of a tree, one byte each, by rows.
+    type Grid = [u8; CELLS];
+
+    // The grid of a tree, made without a store.
+    fn paint(leaves: Leaves) -> Grid {
+        std::array::from_fn(|i| {
+            let (x, y) = (i % SIDE, i / SIDE);
+            let place = Place {
+                x: x as u64 / 8,
+                y: y as u64 / 8,
+            };
+            bit(leaves.cells(place), x, y)
+        })
     }
 
     // The cells of the leaf at (x, y) of a square, counted in leaves.
@@ -63,34 +66,26 @@ mod tests {
         if depth == 0 {
             return cells(store, number);
         }
-        let four = quarters(store, number);
-        match ((x >> (depth - 1)) % 2, (y >> (depth - 1)) % 2) {
-            (0, 0) => leaf_at(store, depth - 1, four.nw, x, y),
-            (_, 0) => leaf_at(store, depth - 1, four.ne, x, y),
-            (0, _) => leaf_at(store, depth - 1, four.sw, x, y),
-            _ => leaf_at(store, depth - 1, four.se, x, y),
-        }
+        let below = depth - 1;
+        let part = quarter(store, number, (y >> below) % 2, (x >> below) % 2);
+        leaf_at(store, below, part, x, y)
     }
 
-    fn compare(store: &Store, number: usize, grid: &[u8]) -> bool
+    fn compare(store: &Store, number: usize, grid: &Grid) -> bool
         requires good { Good store.now }
-        requires square { (Has store.now 4 number) × (length grid.now ≡ 16384) }
+        requires square { Has store.now 4 number }
     {
-        let mut same = true;
-        let mut living = 0u128;
-        for y in 0..SIDE {
-            for x in 0..SIDE {
-                let cell = bit(leaf_at(store, DEPTH, number, x / 8, y / 8), x, y);
-                same &= cell == grid[y * SIDE + x];
-                living = living.wrapping_add(u128::from(cell));
-            }
-        }
-        same && count(store, number) == living && level(store, number) == 7
+        let same = grid.iter().enumerate().all(|(i, cell)| {
+            let (x, y) = (i % SIDE, i / SIDE);
+            bit(leaf_at(store, DEPTH, number, x / 8, y / 8), x, y) == *cell
+        });
+        let living = grid.iter().filter(|cell| **cell == 1).count();
+        same && count(store, number) == living as u128 && level(store, number) == 7
     }
 
     // A tree has one number, in whatever order its quarters are made.
     fn all_orders(store: &mut Store, leaves: Leaves, number: usize) -> bool
-        requires { (Good store.old) × ((store.old.top ≡ 0) × (0 < leaves.kinds)) }
+        requires { (Good store.old) × (store.old.top ≡ 0) }
         ensures { Kept store.old store.new }
     {
         let mut same = true;
@@ -112,9 +107,9 @@ mod tests {
     }
 
     // What is held is there after collections, with its number, and is found again.
-    fn outlives(store: &mut Store, tree: &Hold, leaves: Leaves, grid: &[u8]) -> Result<bool, Full>
+    fn outlives(store: &mut Store, tree: &Hold, leaves: Leaves, grid: &Grid) -> Result<bool, Full>
         requires good { (Good store.old) × (store.old.top ≡ 1) }
-        requires holds { (Holds store.old tree.now 1 4) × ((length grid.now ≡ 16384) × (0 < leaves.kinds)) }
+        requires holds { Holds store.old tree.now 1 4 }
         ensures { Kept store.old store.new }
     {
         let before = tree.number(store, 0);
@@ -125,13 +120,13 @@ mod tests {
         Ok((collections > 3) & (number == before) & (again == number) & same)
     }
 
-    fn held(store: &mut Store, leaves: Leaves, grid: &mut [u8]) -> Result<bool, Full>
-        requires { (Good store.old) × ((store.old.top ≡ 0) × ((length grid.old ≡ 16384) × (0 < leaves.kinds))) }
+    fn held(store: &mut Store, leaves: Leaves) -> Result<bool, Full>
+        requires { (Good store.old) × (store.old.top ≡ 0) }
         ensures { Kept store.old store.new }
     {
-        paint(grid, leaves);
+        let grid = paint(leaves);
         let tree = grow_held(store, leaves, DEPTH, ORIGIN, 0)?;
-        let result = outlives(store, &tree, leaves, grid);
+        let result = outlives(store, &tree, leaves, &grid);
         tree.release(store);
         result
     }
@@ -139,10 +134,9 @@ mod tests {
     #[test]
     fn held_trees_outlive_collections(rt: HostRuntime) -> Result<(), Fail> {
         let mut words = vec![in rt.alloc(); 0u64; WORDS]?;
-        let mut grid = vec![in rt.alloc(); 0u8; SIDE * SIDE]?;
         let mut store = open(words.as_mut_slice(), 0);
-        let many = held(&mut store, MANY, grid.as_mut_slice())?;
-        let few = held(&mut store, FEW, grid.as_mut_slice())?;
+        let many = held(&mut store, MANY)?;
+        let few = held(&mut store, FEW)?;
         assert!(rt; many && few);
         Ok(())
     }
@@ -151,13 +145,9 @@ mod tests {
     fn used(store: &Store) -> usize
         requires { Good store.now }
     {
-        let mut used = 0usize;
-        for slot in 0..store.slots {
-            if store.state(slot) >= 2 {
-                used = used.wrapping_add(1);
-            }
-        }
-        used
+        (0..store.slots)
+            .filter(|slot| matches!(store.state(*slot), State::Square(_)))
+            .count()
     }
 
     // Holds trees until the store is full. Then three quarters of it are in use.
@@ -165,9 +155,10 @@ mod tests {
         requires { (Good store.old) × (store.old.top < 1000) }
         ensures { Kept store.old store.new }
     {
-        let Grove { hold, full } = grow_many(store, OTHERS, 3, 1000)?;
+        let Grove { hold, refusal } = grow_many(store, OTHERS, 3, 1000)?;
         let (used, left, slots) = (used(store), store.left, store.slots);
         hold.release(store);
+        let full = refusal.is_some();
         Ok(full && used <= slots && 4 * used >= 3 * slots && used + left == slots - 3 * slots / 16)
     }
 
@@ -176,12 +167,12 @@ mod tests {
         requires { (Good store.old) × (store.old.top ≡ 0) }
         ensures { Kept store.old store.new }
     {
-        let Grove { hold, full } = grow_many(store, MANY, 3, 390)?;
+        let Grove { hold, refusal } = grow_many(store, MANY, 3, 390)?;
         let used = used(store);
         let collections = churn(store, OTHERS, DEPTH, 200);
         let filled = fill_up(store);
         hold.release(store);
-        Ok(!full && used > 26000 && collections? > 10 && filled?)
+        Ok(refusal.is_none() && used > 26000 && collections? > 10 && filled?)
     }
 
     #[test]

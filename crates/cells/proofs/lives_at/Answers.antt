@@ -1,17 +1,15 @@
-use Rattle.std.proofs.Common.{T, sym, ◌∙◌, subst, w64}
-use mir.ValLaws.{to_z-of_z}
-use Rattle.model.specs.World.{far}
-use Rattle.lent.specs.Mem.{seen}
+use Rattle.std.proofs.Common.{T, ap, subst}
+use Rattle.model.specs.declared.Cell.{Cell}
+use Rattle.lent.specs.Lists.{words_of, stretch_of}
 use Rattle.cells.proofs.Finds.{lives_far, place_lives}
 use Rattle.cells.proofs.lives_at.Goals as goal
 
 pub returns-then-is_far : goal.returns-then-is_far
 returns-then-is_far c =
-    let ex = to_z-of_z w64 c.args.x c.ranges.x in let ey = to_z-of_z w64 c.args.y c.ranges.y in
-    lives_far (seen c.args.view) c.args.s c.args.x c.args.y c.requires (subst T (c.is_far.ensures ∙ (λ i. far (ex i) (ey i))) (subst T (sym c.if-is_far.true) tt))
+    lives_far (words_of c.args.list) (stretch_of c.args.list) c.args.cell.x c.args.cell.y c.args.list.listed (subst T c.if-is_far.ensures tt)
 
 pub returns : goal.returns
 returns c =
-    let ex = to_z-of_z w64 c.args.x c.ranges.x in let ey = to_z-of_z w64 c.args.y c.ranges.y in
-    place_lives (seen c.args.view) c.args.s c.to_word-row.result c.to_word-column.result c.find.result c.args.x c.args.y c.holds.result c.requires c.find.ensures
-    (c.to_word-column.ensures ∙ ex) (c.to_word-row.ensures ∙ ey) c.holds.ensures
+    let e = c.from_cell-entry.result in let is = c.from_cell-entry.ensures in
+    place_lives (words_of c.args.list) (stretch_of c.args.list) e.row e.column c.find.result c.args.cell.x c.args.cell.y c.holds.result c.args.list.listed c.find.ensures
+    (ap (λ (d : Cell). d.x) is) (ap (λ (d : Cell). d.y) is) c.holds.ensures

@@ -1,14 +1,15 @@
-use Rattle.std.proofs.Common.{◌≡◌, ℕ, subst, arith}
-use Rattle.rules.specs.Laws.{law}
+use Rattle.std.proofs.Common.{◌≡◌, ℕ, get_or, subst, arith}
 use Rattle.leaf.specs.Shown.{Later}
 use Rattle.leaf.proofs.Showing.{later_none, later_next}
 use Rattle.leaf.proofs.advance.Goals as goal
 
 pub loop-init : goal.loop-init
-loop-init c = later_none (law c.args.rule) c.args.w
+loop-init g c r f i h = later_none r (get_or c.args.words i 0)
 
 pub loop-preserved : goal.loop-preserved
-loop-preserved c = later_next (law c.args.rule) c.loop.counter c.args.w c.loop.now _ (omega arith) c.loop.invariant c.generation-now.ensures
+loop-preserved g c r f i h = later_next r c.loop.counter _ _ _ (omega arith) (c.loop.invariant r f i h) (c.next_each-now.ensures r f i h)
 
 pub returns : goal.returns
-returns c = let e : c.loop.counter ≡ c.args.n = omega arith in subst (λ (k : ℕ). Later (law c.args.rule) k c.args.w c.loop.now) e c.loop.invariant
+returns g c r f i h =
+    let e : c.loop.counter ≡ c.args.n = omega arith in
+    subst (λ (k : ℕ). Later r k (get_or c.args.words i 0) (get_or c.loop.now i 0)) e (c.loop.invariant r f i h)

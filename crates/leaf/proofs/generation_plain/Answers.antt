@@ -2,14 +2,11 @@ use Rattle.std.proofs.Common.{◌∙◌, arith}
 use Rattle.model.specs.Rules.{becomes}
 use Rattle.rules.specs.Laws.{law}
 use Rattle.leaf.specs.Words.{next_in}
-use Rattle.leaf.proofs.Plain.{none_live, none_made, row_begins, row_ends, all_made, cell_made}
+use Rattle.leaf.proofs.Plain.{none_live, none_made, row_ends, all_made, cell_made}
 use Rattle.leaf.proofs.generation_plain.Goals as goal
 
 pub loop-y-init : goal.loop-y-init
 loop-y-init c u v hu hv = none_live u v ∙ none_made u v (next_in (law c.args.rule) c.args.w u v)
-
-pub loop-x-init : goal.loop-x-init
-loop-x-init c u v hu hv = row_begins u v _ _ _ (c.loop-y.invariant u v hu hv)
 
 pub loop-x-preserved : goal.loop-x-preserved
 loop-x-preserved c u v hu hv =

@@ -1,4 +1,5 @@
-use Rattle.std.proofs.Common.{◌≡◌, suc, ◌-◌, ◌∙◌, arith}
+use Rattle.std.proofs.Common.{◌≡◌, suc, ◌-◌, ◌∙◌, subst, arith}
+use Rattle.store.specs.Interning.{Interned}
 use Rattle.pieces.proofs.Steady.{steady_trans}
 use Rattle.pads.proofs.Padding.{leaf_blank, four_blank}
 use Rattle.pads.proofs.+empty.Goals as goal
@@ -20,6 +21,6 @@ returns t c =
       blank = record {
         good = e.good;
         steady = steady_trans b.blank.steady (record { still = e.still; top = e.top });
-        is = four_blank w u c.args.depth p c.in_ok-quarter.quarter c.intern.result z b.blank.is e.is;
+        is = four_blank w u c.args.depth p c.in_ok-quarter.quarter c.intern.result z b.blank.is (subst (λ f. Interned w u p f c.intern.result) c.all.ensures e.is);
       };
     }

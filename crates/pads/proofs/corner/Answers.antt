@@ -1,9 +1,9 @@
-use Rattle.std.proofs.Common.{suc, ◌/◌, ◌%◌, sym, ◌∙◌, subst, arith}
-use Rattle.nodes.specs.declared.Quarters.{Quarters}
+use Rattle.std.proofs.Common.{ℕ, suc, ◌/◌, ◌%◌, sym, ◌∙◌, subst, arith}
+use Rattle.model.specs.declared.quarters.Quarters.{Quarters}
 use Rattle.store.specs.Interning.{Interned}
 use Rattle.collect.specs.Collecting.{FourOf}
 use Rattle.pieces.proofs.Steady.{steady_trans, keeping_self}
-use Rattle.pads.proofs.Padding.{corner_interned, around_four, quarter_kept}
+use Rattle.pads.proofs.Padding.{corner_interned, around_four, quarter_kept, around_is}
 use Rattle.pads.proofs.corner.Goals as goal
 
 pub intern-requires : goal.intern-requires
@@ -13,7 +13,7 @@ intern-requires c = let v = c.args.store.now in let w = c.empty.new.store in let
     record {
       good = b.good;
       four = (
-        subst (FourOf w c.args.below) (sym c.around.ensures) (around_four w c.args.below c.in_ok-blank.blank c.quarter-inner.result c.args.i c.requires.1 b.is.valid q.valid),
+        subst (FourOf w c.args.below) (sym (around_is c.quarter-inner.result c.args.i c.with-four.ensures c.all.ensures)) (around_four w c.args.below c.in_ok-blank.blank c.quarter-inner.result c.args.i c.requires.1 b.is.valid q.valid),
         let d = f.deep in omega arith,
       );
     }
@@ -28,6 +28,6 @@ returns c =
         steady = steady_trans b.steady (record { still = i.still; top = i.top });
         is = corner_interned v w u c.args.below c.args.i c.args.place c.in_ok-blank.blank c.quarter-inner.result c.intern.result c.requires.1 b.is
             (quarter_kept v w c.args.below c.args.place c.held.result c.quarter-inner.result (c.args.i / 2) (c.args.i % 2) b.steady c.held.ensures c.quarter-inner.ensures)
-            (subst (λ (f : Quarters). Interned w u c.args.below f c.intern.result) c.around.ensures i.is);
+            (subst (λ (f : Quarters ℕ). Interned w u c.args.below f c.intern.result) (around_is c.quarter-inner.result c.args.i c.with-four.ensures c.all.ensures) i.is);
       };
     }

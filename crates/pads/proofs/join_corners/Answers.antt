@@ -1,13 +1,10 @@
-use Rattle.std.proofs.Common.{◌≡◌, ℕ, suc, ◌+◌, ◌∙◌, subst, arith}
+use Rattle.std.proofs.Common.{◌≡◌, ℕ, suc, ◌+◌, ◌∙◌, subst, arith, rules}
 use Rattle.holds.proofs.Chain.{still_less, still_trans}
 use Rattle.pieces.specs.Gathering.{Gathered}
 use Rattle.pieces.proofs.Steady.{underway_more}
 use Rattle.pads.specs.Padding.{corner_of}
 use Rattle.pads.proofs.Corners.{way_framed, way_break, corner_has, four_corners, corners_four, corners_padded}
 use Rattle.pads.proofs.join_corners.Goals as goal
-
-pub corner-requires : goal.corner-requires
-corner-requires c = (way_framed c.args.store.now c.loop-i.store c.args.corners.now c.loop-i.corners c.args.below c.args.place c.loop-i.i c.requires.framed.deep c.loop-i.invariant.1, c.loop-i-test.true)
 
 pub returns-in_err-number : goal.returns-in_err-number
 returns-in_err-number c =
@@ -41,7 +38,7 @@ intern-requires c = let w = c.loop-i.store in let h = c.loop-i.corners in let p 
       good = p.good;
       four = (
         corners_four w c.args.below c.args.place (c.args.below + 1) _ (omega arith)
-            (four_corners w h c.args.below c.args.place _ g c.number.ensures.is c.number-2.ensures.is c.number-3.ensures.is c.number-4.ensures.is),
+            (four_corners w h c.args.below c.args.place _ g (search rules) (search rules) (search rules) (search rules)),
         omega arith,
       );
     }
@@ -61,6 +58,6 @@ returns c =
         done = p.done;
         ends = omega arith;
         is = corners_padded v w u c.args.corners.now.from c.args.below c.args.place (c.args.below + 1) _ c.intern.result p.still c.requires.parts.root (omega arith)
-            (four_corners w h c.args.below c.args.place _ g c.number.ensures.is c.number-2.ensures.is c.number-3.ensures.is c.number-4.ensures.is) i.is;
+            (four_corners w h c.args.below c.args.place _ g (search rules) (search rules) (search rules) (search rules)) i.is;
       };
     }

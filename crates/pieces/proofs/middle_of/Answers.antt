@@ -1,22 +1,26 @@
-use Rattle.std.proofs.Common.{◌≡◌, ℕ, suc, ◌-◌, sym, ◌∙◌, subst, arith}
-use Rattle.model.specs.Squares.{Four, middle}
-use Rattle.slots.specs.Stores.{Has}
+use Rattle.std.proofs.Common.{rules, Bool, ◌≡◌, ℕ, suc, ◌-◌, sym, ◌∙◌, subst, arith}
+use Rattle.model.specs.Squares.{Square, Four, middle}
+use Rattle.leaf.specs.AsSquares.{word_square}
+use Rattle.slots.specs.Stores.{Has, Is}
 use Rattle.pieces.proofs.Nine.{is_self, middle_interned, middle_leaf}
 use Rattle.pieces.proofs.Words.{middle_word}
 use Rattle.pieces.proofs.middle_of.Goals as goal
 
 pub returns-then-depth-eq0 : goal.returns-then-depth-eq0
 returns-then-depth-eq0 c =
-    let v = c.args.store.now in let w = c.intern_leaf.new.store in let e = c.intern_leaf.ensures in let m = c.middle.ensures in
+    let v = c.args.store.now in let w = c.intern_leaf.new.store in let e = c.intern_leaf.ensures in let m = c.middle.ensures in let f = c.args.four in let g = c.map-words.result in
+    let pa : (q : Square Bool) → Is v 0 f.nw q → q ≡ word_square g.nw = search rules in
+    let pb : (q : Square Bool) → Is v 0 f.ne q → q ≡ word_square g.ne = search rules in
+    let pc : (q : Square Bool) → Is v 0 f.sw q → q ≡ word_square g.sw = search rules in
+    let pd : (q : Square Bool) → Is v 0 f.se q → q ≡ word_square g.se = search rules in
     record {
       same = e.same;
       middle = record {
         good = e.good;
         steady = record { still = e.still; top = e.top };
-        is = middle_leaf v w c.args.depth c.args.four c.middle.result c.intern_leaf.result c.if-depth-eq0.true e.is (λ a b d f ha hb hd hf.
-            let pa = c.cells-nw.ensures a ha in let pb = c.cells-ne.ensures b hb in let pd = c.cells-sw.ensures d hd in let pf = c.cells-se.ensures f hf in
-            middle_word c.cells-nw.result c.cells-ne.result c.cells-sw.result c.cells-se.result c.middle.result m.nw m.ne m.sw m.se ∙
-            (λ i. middle (Four (sym pa i) (sym pb i) (sym pd i) (sym pf i))));
+        is = middle_leaf v w c.args.depth f c.middle.result c.intern_leaf.result c.if-depth-eq0.true e.is (λ a b d e ha hb hd he.
+            middle_word g.nw g.ne g.sw g.se c.middle.result m.nw m.ne m.sw m.se ∙
+            (λ i. middle (Four (sym (pa a ha) i) (sym (pb b hb) i) (sym (pc d hd) i) (sym (pd e he) i))));
       };
     }
 

@@ -26,10 +26,10 @@ intern-requires c = let v = c.args.store.now in let b = c.args.below in
       good = c.requires.good.0;
       four = (
         record {
-          has_nw = (c.small_quarter.ensures _ s).valid;
-          has_ne = (c.small_quarter-2.ensures _ s).valid;
-          has_sw = (c.small_quarter-3.ensures _ s).valid;
-          has_se = (c.small_quarter-4.ensures _ s).valid;
+          has_nw = (c.small_quarter.ensures c.args.below _ s).valid;
+          has_ne = (c.small_quarter-2.ensures c.args.below _ s).valid;
+          has_sw = (c.small_quarter-3.ensures c.args.below _ s).valid;
+          has_se = (c.small_quarter-4.ensures c.args.below _ s).valid;
         },
         c.requires.good.1,
       );
@@ -45,6 +45,6 @@ returns c =
       good = e.good;
       steady = record { still = e.still; top = e.top };
       is = piece_interned v w b c.args.place (c.args.i / 3) (c.args.i % 3) _ c.intern.result
-          (λ q h. c.small_quarter.ensures q (at q h)) (λ q h. c.small_quarter-2.ensures q (at q h)) (λ q h. c.small_quarter-3.ensures q (at q h))
-          (λ q h. c.small_quarter-4.ensures q (at q h)) e.is;
+          (λ q h. c.small_quarter.ensures c.args.below q (at q h)) (λ q h. c.small_quarter-2.ensures c.args.below q (at q h)) (λ q h. c.small_quarter-3.ensures c.args.below q (at q h))
+          (λ q h. c.small_quarter-4.ensures c.args.below q (at q h)) e.is;
     }

@@ -3,7 +3,7 @@ use Rattle.pieces.proofs.Nine.{is_self}
 use Rattle.pieces.proofs.small_quarter.Goals as goal
 
 pub quarter-requires : goal.quarter-requires
-quarter-requires c = record { good = c.requires.good; within = (c.quarter-large.ensures (suc c.args.below) _ (is_self c.args.store.now (suc (suc c.args.below)) c.args.number c.requires.has)).valid.here }
+quarter-requires c = let h = c.requires.has in record { good = c.requires.good; within = (c.quarter-large.ensures (suc h.0) _ (is_self c.args.store.now (suc (suc h.0)) c.args.number h.1)).valid.here }
 
 pub returns : goal.returns
-returns c = λ q h. c.quarter.ensures c.args.below _ (c.quarter-large.ensures (suc c.args.below) q h)
+returns c = λ d q h. c.quarter.ensures d _ (c.quarter-large.ensures (suc d) q h)

@@ -1,53 +1,62 @@
-use Rattle.std.proofs.Common.{◌≡◌, ℕ, suc, ◌+◌, Some, Option, sym, refl, ap, ◌∙◌, subst, inl, inr, arith}
+use Rattle.std.proofs.Common.{ℕ, ◌++◌, [], ◌∷◌, length, sym, ◌∙◌, subst, arith}
 use Rattle.slots.specs.Stores.{table}
 use Rattle.probe.specs.Places.{Fit, Found}
-use Rattle.probe.proofs.Probing.{Next, Passed, passed_square, passed_free, fit_empty, fit_end, used_end}
-use Rattle.probe.proofs.find.Goals.{then-state-eq1, else-state-eq1+else-holds, then-slot-store, else-slot-store}
+use Rattle.probe.proofs.Probing.{turn, ended, Passed, node_same, node_other, passed_square, passed_free, fit_empty, fit_end, used_end}
 use Rattle.probe.proofs.find.Goals as goal
 
-pub returns-then-state-eq0 : goal.returns-then-state-eq0
-unfolding Found
-returns-then-state-eq0 c =
-    let s = c.args.store.now in let n = s.slots in let v = table s in
-    subst (λ (i : ℕ). Fit n v c.args.node i) (sym c.first.ensures)
-    (fit_empty n v c.args.node c.loop-steps.steps c.loop-steps.slot c.loop-steps.spot c.requires.sound.0 c.requires.laid.some c.loop-steps-test.true c.requires.sound.1
-    c.loop-steps.invariant (sym c.state-state.ensures ∙ c.if-state-eq0.true))
+pub state-requires-clause-within : goal.state-requires-clause-within
+state-requires-clause-within c =
+    let n = c.args.store.now.slots in let x = c.args.node in
+    let t = turn n x c.loop-slot.yielded _ _ c.requires.laid.some c.loop-slot.yielded_by c.in-Some.is c.next.ensures.steps (cc, cc, cc, cc) in
+    t.0
 
-pub returns-then-holds : goal.returns-then-holds
+pub returns-in-Empty : goal.returns-in-Empty
 unfolding Found
-returns-then-holds c = (c.loop-steps.invariant.within, c.if-holds.ensures.is refl)
+returns-in-Empty c =
+    let n = c.args.store.now.slots in let v = table c.args.store.now in let x = c.args.node in
+    let t = turn n x c.loop-slot.yielded _ _ c.requires.laid.some c.loop-slot.yielded_by c.in-Some.is c.next.ensures.steps (cc, cc, cc, cc) in
+    subst (λ (i : ℕ). Fit n v x i) (sym c.unwrap_or.ensures)
+    (fit_empty n v x (length c.loop-slot.yielded) c.in-Some.slot c.loop-slot.spot c.requires.sound.0 c.requires.laid.some c.requires.sound.1 t c.loop-slot.invariant (sym c.in-Empty.ensures.is))
 
-pub loop-steps-preserved : goal.loop-steps-preserved
-loop-steps-preserved c =
-    let s = c.args.store.now in let n = s.slots in let v = table s in let x = c.args.node in
-    let k = c.loop-steps.steps in let i = c.loop-steps.slot in let j = c.if-slot-store.slot in
-    let o : Next n i j = elim c.if-slot-store.branch [
-      | then-slot-store w ↦ inl (w.if-slot-store.true, w.slot-is)
-      | else-slot-store w ↦ inr (let z = w.if-slot-store.false in omega arith, w.slot-is)
-    ] in
-    let e : suc k ≡ k + 1 = omega arith in
-    subst (λ (m : ℕ). Passed n v x m j c.if-state-eq1.spot) e
-    (elim c.if-state-eq1.branch [
-      | then-state-eq1 w ↦ subst (Passed n v x (suc k) j) (ap Some (sym w.first-then-state-eq1.ensures) ∙ sym w.spot-is)
-          (passed_free n v x k i j c.loop-steps.spot c.requires.laid.some c.loop-steps-test.true c.requires.sound.1 c.loop-steps.invariant o
-          (sym c.state-state.ensures ∙ w.if-state-eq1.true))
-      | else-state-eq1+else-holds w ↦ subst (Passed n v x (suc k) j) (sym w.spot-is)
-          (passed_square n v x k i j c.loop-steps.spot c.requires.laid.some c.loop-steps-test.true c.loop-steps.invariant o
-          (let a = c.if-state-eq0.false in let b = w.if-state-eq1.false in let d = c.state-state.ensures in omega arith) (w.if-holds.ensures.not refl))
-    ])
+pub loop-slot-preserved-in-Free : goal.loop-slot-preserved-in-Free
+loop-slot-preserved-in-Free c =
+    let n = c.args.store.now.slots in let v = table c.args.store.now in let x = c.args.node in let ys = c.loop-slot.yielded in let i = c.in-Some.slot in
+    let t = turn n x c.loop-slot.yielded _ _ c.requires.laid.some c.loop-slot.yielded_by c.in-Some.is c.next.ensures.steps (cc, cc, cc, cc) in
+    subst (Passed n v x (length (ys ++ i ∷ []))) (sym c.or-spot.ensures)
+    (passed_free n v x ys i c.loop-slot.spot c.requires.laid.some c.requires.sound.1 t c.loop-slot.invariant (sym c.in-Free.ensures.is))
 
-pub returns-in-Some : goal.returns-in-Some
+pub node-other-requires-clause-within : goal.node-other-requires-clause-within
+node-other-requires-clause-within c =
+    let n = c.args.store.now.slots in let x = c.args.node in
+    let t = turn n x c.loop-slot.yielded _ _ c.requires.laid.some c.loop-slot.yielded_by c.in-Some.is c.next.ensures.steps (cc, cc, cc, cc) in
+    t.0
+
+pub returns-then-eq : goal.returns-then-eq
 unfolding Found
-returns-in-Some c =
-    let s = c.args.store.now in let n = s.slots in let v = table s in let x = c.args.node in
-    let e : c.loop-steps.steps ≡ n = let a = c.loop-steps.invariant.most in let b = c.loop-steps-test.false in omega arith in
-    fit_end n v x c.loop-steps.slot c.in-Some.slot c.requires.laid.some
-    (subst (λ (o : Option ℕ). Passed n v x n c.loop-steps.slot o) c.in-Some.is (subst (λ (k : ℕ). Passed n v x k c.loop-steps.slot c.loop-steps.spot) e c.loop-steps.invariant))
+returns-then-eq c =
+    let n = c.args.store.now.slots in let x = c.args.node in
+    let t = turn n x c.loop-slot.yielded _ _ c.requires.laid.some c.loop-slot.yielded_by c.in-Some.is c.next.ensures.steps (cc, cc, cc, cc) in
+    (t.0, sym c.node-other.ensures ∙ node_same c.node-other.result x c.if-eq.ensures)
 
-pub returns-in-None : goal.returns-in-None
+pub loop-slot-preserved : goal.loop-slot-preserved
+loop-slot-preserved c =
+    let n = c.args.store.now.slots in let v = table c.args.store.now in let x = c.args.node in let ys = c.loop-slot.yielded in let i = c.in-Some.slot in
+    let t = turn n x c.loop-slot.yielded _ _ c.requires.laid.some c.loop-slot.yielded_by c.in-Some.is c.next.ensures.steps (cc, cc, cc, cc) in
+    passed_square n v x ys i c.loop-slot.spot c.requires.laid.some t c.loop-slot.invariant
+    (let d = c.in-Square.ensures.is in omega arith) (λ z. node_other c.node-other.result x c.if-eq.ensures (c.node-other.ensures ∙ z))
+
+pub returns-in-Some-spot : goal.returns-in-Some-spot
 unfolding Found
-returns-in-None c =
-    let s = c.args.store.now in let n = s.slots in let v = table s in let x = c.args.node in
-    let e : c.loop-steps.steps ≡ n = let a = c.loop-steps.invariant.most in let b = c.loop-steps-test.false in omega arith in
-    used_end n v x c.loop-steps.slot c.requires.laid.some
-    (subst (λ (o : Option ℕ). Passed n v x n c.loop-steps.slot o) c.in-None.is (subst (λ (k : ℕ). Passed n v x k c.loop-steps.slot c.loop-steps.spot) e c.loop-steps.invariant))
+returns-in-Some-spot c =
+    let n = c.args.store.now.slots in let v = table c.args.store.now in let x = c.args.node in
+    let e = ended n x c.loop-slot.yielded _ _ c.requires.laid.some c.loop-slot.yielded_by c.in-None.is c.next.ensures.steps (cc, cc, cc, cc) in
+    fit_end n v x c.in-Some-spot.slot c.requires.laid.some
+    (subst (Passed n v x n) c.in-Some-spot.is (subst (λ (k : ℕ). Passed n v x k c.loop-slot.spot) e c.loop-slot.invariant))
+
+pub returns-in-None-spot : goal.returns-in-None-spot
+unfolding Found
+returns-in-None-spot c =
+    let n = c.args.store.now.slots in let v = table c.args.store.now in let x = c.args.node in
+    let e = ended n x c.loop-slot.yielded _ _ c.requires.laid.some c.loop-slot.yielded_by c.in-None.is c.next.ensures.steps (cc, cc, cc, cc) in
+    used_end n v x c.requires.laid.some
+    (subst (Passed n v x n) c.in-None-spot.is (subst (λ (k : ℕ). Passed n v x k c.loop-slot.spot) e c.loop-slot.invariant))

@@ -1,4 +1,4 @@
-use Rattle.std.proofs.Common.{◌-◌, ◌≤◌}
+use Rattle.std.proofs.Common.{◌-◌}
 use Rattle.lent.specs.Mem.{mem, Same}
 use Rattle.lent.specs.Stretches.{cells_in}
 use Rattle.rules.specs.Laws.{law}
@@ -7,8 +7,5 @@ use Rattle.runs.proofs.period_list.Given as goal
 
 abbrev pub invariant-loop-t : goal.invariant-loop-t
 invariant-loop-t l =
-    Same l.initial.words l.words × Running (law l.rule) (mem l.initial.words) (mem l.words) l.home l.last l.t × (l.t ≤ l.bound) ×
-    Searching (law l.rule) (cells_in (mem l.initial.words) l.home) l.bound l.t (cells_in (mem l.words) l.last)
-
-abbrev pub decreases-loop-t : goal.decreases-loop-t
-decreases-loop-t l = l.bound - l.t
+    Same l.initial.words l.words × Running (law l.rule) (mem l.initial.words) (mem l.words) l.home l.last (l.t - 1) ×
+    Searching (law l.rule) (cells_in (mem l.initial.words) l.home) l.bound (l.t - 1) (cells_in (mem l.words) l.last)

@@ -1,9 +1,7 @@
-use Rattle.std.proofs.Common.{ℕ, suc, ◌-◌, sym, ap, ◌∙◌, subst, arith}
+use Rattle.std.proofs.Common.{refl, rules, suc, sym, ◌∙◌, subst, arith}
 use Rattle.slots.specs.Stores.{Has}
-use Rattle.holds.specs.declared.Hold.{Hold}
-use Rattle.holds.specs.Holding.{Popped}
 use Rattle.pieces.proofs.Nine.{is_self}
-use Rattle.pieces.proofs.Steady.{steady_trans, number_steady, number_gives}
+use Rattle.pieces.proofs.Steady.{steady_trans}
 use Rattle.seek.specs.Putting.{put_in}
 use Rattle.seek.proofs.Paths.{rest_within}
 use Rattle.seek.proofs.Steps.{joining, joins_four, joins_answer, number_task}
@@ -18,8 +16,8 @@ put_in_quarter-put_number-requires t c =
         good = c.requires.good;
         has = (c.quarter-old.ensures b _ (is_self v (suc b) _ h)).valid;
         deep = omega arith;
-        column = rest_within c.args.x _ b c.side-half.ensures;
-        row = rest_within c.args.y _ b c.side-half.ensures;
+        column = rest_within c.args.put.x _ b c.side-half.ensures;
+        row = rest_within c.args.put.y _ b c.side-half.ensures;
         room = omega arith;
       },
     )
@@ -29,9 +27,9 @@ put_in_quarter-intern-requires t c = let v = c.args.store.now in let w = c.put_n
     record {
       good = e.good;
       four = (
-        joins_four v w c.args.below c.args.place c.args.x c.args.y c.side-half.result c.args.lives c.with_quarter-four.result c.requires.below c.requires.has
-            (joining v w c.args.below c.args.place c.args.x c.args.y c.side-half.result c.held-number.result c.quarter-old.result c.in_ok-new.new c.args.lives
-            c.quarters.result c.with_quarter-four.result e.steady c.held-number.ensures c.quarter-old.ensures e.is c.quarters.ensures c.with_quarter-four.ensures),
+        joins_four v w c.args.below c.args.place c.args.put.x c.args.put.y c.side-half.result c.args.put.lives c.with-four.result c.requires.below c.requires.has
+            (joining v w c.args.below c.args.place c.args.put.x c.args.put.y c.side-half.result c.held-number.result c.quarter-old.result c.in_ok-new.new c.args.put.lives
+            c.quarters.result c.with-four.result e.steady c.held-number.ensures c.quarter-old.ensures e.is c.quarters.ensures c.with-four.ensures),
         omega arith,
       );
     }
@@ -45,27 +43,15 @@ put_in_quarter-returns t c =
       put = record {
         good = i.good;
         steady = steady_trans e.put.steady (record { still = i.still; top = i.top });
-        is = joins_answer v w u c.args.below c.args.place c.args.x c.args.y c.side-half.result c.args.lives c.with_quarter-four.result c.intern.result c.requires c.side-half.ensures
-            (joining v w c.args.below c.args.place c.args.x c.args.y c.side-half.result c.held-number.result c.quarter-old.result c.in_ok-new.new c.args.lives
-            c.quarters.result c.with_quarter-four.result e.put.steady c.held-number.ensures c.quarter-old.ensures e.put.is c.quarters.ensures c.with_quarter-four.ensures) i.is;
+        is = joins_answer v w u c.args.below c.args.place c.args.put.x c.args.put.y c.side-half.result c.args.put.lives c.with-four.result c.intern.result c.requires c.side-half.ensures
+            (joining v w c.args.below c.args.place c.args.put.x c.args.put.y c.side-half.result c.held-number.result c.quarter-old.result c.in_ok-new.new c.args.put.lives
+            c.quarters.result c.with-four.result e.put.steady c.held-number.ensures c.quarter-old.ensures e.put.is c.quarters.ensures c.with-four.ensures) i.is;
       };
     }
 
-pub put_number-put_cell-put-requires : goal.put_number-put_cell-put-requires
-put_number-put_cell-put-requires t c =
-    let v = c.args.store.now in let w = c.take-hold.new.store in let h = c.take-hold.ensures in let z = h.pushed.top in
-    (omega arith, number_task v w c.args.depth c.args.number (w.top - 1) c.args.x c.args.y c.requires h.good h.pushed (omega arith))
+pub put_number-while_held-requires-clause-callable : goal.put_number-while_held-requires-clause-callable
+put_number-while_held-requires-clause-callable t c = λ w good pushed.
+    (omega arith, number_task c.args.store.now w.now c.args.depth c.args.number c.args.store.now.top c.args.put.x c.args.put.y c.requires good pushed refl)
 
-pub put_number-returns : goal.put_number-returns
-put_number-returns t c =
-    let v = c.args.store.now in let w = c.take-hold.new.store in let u = c.put_cell-put.new.store in let z = c.release.new.store in
-    let h = c.take-hold.ensures in let a = c.put_cell-put.ensures in let r = c.release.ensures in let d = c.args.depth in let i = c.args.number in let top = h.pushed.top in
-    let popped = subst (λ (k : ℕ). Popped k u z) (ap (λ (x : Hold). x.from) h.is) r.popped in
-    record {
-      same = r.same ∙ a.same ∙ h.same;
-      put = record {
-        good = r.good;
-        steady = number_steady v w u z i h.pushed a.put.steady popped;
-        is = number_gives v w u z d d i (w.top - 1) (put_in d c.args.x c.args.y c.args.lives) c.put_cell-put.result h.pushed (omega arith) a.put.is popped;
-      };
-    }
+pub put_number-returns-clause-put : goal.put_number-returns-clause-put
+put_number-returns-clause-put t c = let d = c.args.depth in c.while_held.ensures.given d d (put_in d c.args.put.x c.args.put.y c.args.put.lives) (λ w r w' p. search rules)

@@ -8,7 +8,7 @@ use Rattle.seek.proofs.put_in_leaf.Goals as goal
 pub returns : goal.returns
 returns c =
     let v = c.args.store.now in let w = c.intern_leaf.new.store in let e = c.intern_leaf.ensures in
-    let x = c.args.x in let y = c.args.y in let o = c.args.lives in
+    let x = c.args.put.x in let y = c.args.put.y in let o = c.args.put.lives in
     record {
       same = e.same;
       put = record {

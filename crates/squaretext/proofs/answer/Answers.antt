@@ -1,40 +1,20 @@
-use Rattle.std.proofs.Common.{◌≡◌, ◌+◌, ◌-◌, length, take, drop, sym, ◌∙◌, subst}
-use Rattle.std.proofs.lemmas.Bool.{false≢true}
+use Rattle.std.proofs.Common.{T, subst}
+use Rattle.model.specs.Rules.{Rule as Law, good_rule}
 use Rattle.rules.specs.Laws.{law}
-use Rattle.squaretext.specs.Asked.{next_lines, SquareText}
-use Rattle.squaretext.proofs.Asking.{names, good_of, law_of, to_end, none_left, middle_is}
+use Rattle.squaretext.specs.declared.Fault.{Fault}
+use Rattle.squaretext.specs.Asked.{SquareText}
+use Rattle.squaretext.proofs.Asking.{names, made, ruled, middle_is}
 use Rattle.squaretext.proofs.answer.Goals as goal
-
-pub returns-then-end-input : goal.returns-then-end-input
-returns-then-end-input c =
-    let bs = c.args.input.now in let e = c.line_end-end.ensures in (
-      _,
-      _,
-      names bs _ _ _ e.line c.in-Some.ensures.text,
-      good_of c.in-Some.sets.born c.in-Some.sets.stays c.in-Ok.rule c.in-Ok.ensures,
-      none_left bs c.line_end-end.result c.if-end-input.true e.rest,
-    )
-
-pub returns-then-not-is_square : goal.returns-then-not-is_square
-returns-then-not-is_square c =
-    let bs = c.args.input.now in let e = c.line_end-end.ensures in (
-      _,
-      _,
-      names bs _ _ _ e.line c.in-Some.ensures.text,
-      good_of c.in-Some.sets.born c.in-Some.sets.stays c.in-Ok.rule c.in-Ok.ensures,
-      λ s. false≢true (c.if-not-is_square.ensures.1 (subst SquareText (sym e.rest ∙ to_end bs _) s)),
-    )
 
 pub returns : goal.returns
 returns c =
-    let bs = c.args.input.now in let e = c.line_end-end.ensures in
-    let rest : take (length bs - (c.line_end-end.result + 1)) (drop (c.line_end-end.result + 1) bs) ≡ next_lines bs = sym (to_end bs _) ∙ e.rest in (
+    let bs = c.args.input.now in let e = c.split_line.ensures in let s = c.in_ok-sets.sets in let r = c.in_ok-rule.rule in
+    let m = made Fault c.new.result r _ c.in_ok-rule.ensures.cases (λ z q. q) in let l = ruled s.born s.stays c.new.result r m c.new.ensures in (
       _,
       _,
-      names bs _ _ _ e.line c.in-Some.ensures.text,
-      good_of c.in-Some.sets.born c.in-Some.sets.stays c.in-Ok.rule c.in-Ok.ensures,
-      subst SquareText rest (c.is_square.ensures.0 c.if-not-is_square.false),
-      middle_is _ _ (law c.in-Ok.rule) _ c.word_at-nw.result c.word_at-ne.result c.word_at-sw.result c.word_at-se.result _ rest
-          (law_of c.in-Some.sets.born c.in-Some.sets.stays c.in-Ok.rule c.in-Ok.ensures) c.word_at-nw.ensures c.word_at-ne.ensures c.word_at-sw.ensures c.word_at-se.ensures
-          c.leap16.ensures.plane,
+      names bs _ s c.parse.result e.line c.in_ok-sets.ensures.ok_part c.parse.ensures.text,
+      subst (λ (x : Law). T (good_rule x)) l r.good,
+      subst SquareText e.rest (c.is_square.ensures.0 c.if-not-is_square.false),
+      middle_is _ _ (law r) _ c.word_at.result c.word_at-2.result c.word_at-3.result c.word_at-4.result _ e.rest l
+          c.word_at.ensures c.word_at-2.ensures c.word_at-3.ensures c.word_at-4.ensures c.leap16.ensures.plane,
     )

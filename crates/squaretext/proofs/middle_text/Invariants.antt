@@ -1,6 +1,6 @@
-use Rattle.std.proofs.Common.{◌≡◌, ℕ, ◌<◌, length, get_or}
+use Rattle.std.proofs.Common.{◌≡◌, ℕ, ◌<◌, get_or}
 use Rattle.squaretext.specs.Asked.{byte_of_middle}
 use Rattle.squaretext.proofs.middle_text.Given as goal
 
-abbrev pub invariant-loop-i : goal.invariant-loop-i
-invariant-loop-i l = (length l.text ≡ 72) × ((k : ℕ) → k < l.i → get_or l.text k 0 ≡ byte_of_middle l.w k)
+abbrev pub invariant-loop-place : goal.invariant-loop-place
+invariant-loop-place l = (k : ℕ) → k < l.place → get_or l.byte-items k 0 ≡ byte_of_middle l.w k

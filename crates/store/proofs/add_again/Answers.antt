@@ -1,7 +1,9 @@
-use Rattle.store.proofs.Interning.{added_first}
+use Rattle.std.proofs.Common.{sym, subst}
+use Rattle.store.specs.Interning.{Added}
+use Rattle.store.proofs.Interning.{added_given}
 use Rattle.store.proofs.add_again.Goals as goal
 
-pub returns-in-Some : goal.returns-in-Some
-returns-in-Some c =
-    let e = c.in-Some.ensures in let a = e.added in
-    record { same = e.same; cut = e.cut; good = e.good; grown = a.grown; added = added_first c.args.store.now c.add.new.store c.args.node c.in-Some.number e.cut a.given }
+pub returns-clause-added : goal.returns-clause-added
+returns-clause-added c =
+    let v = c.args.store.now in let w = c.add.new.store in let x = c.args.node in let e = c.add.ensures in
+    subst (Added v w x) (sym c.ok_or.ensures.value) (added_given v w x c.add.result _ e.cut e.added.given)

@@ -1,8 +1,8 @@
 use Rattle.trees.proofs.Rows.{kept_trans}
 use Rattle.storebench.proofs.collections.Goals as goal
 
-pub returns-in_default : goal.returns-in_default
-returns-in_default c = kept_trans c.loop-turn.invariant c.sow.ensures.kept
+pub returns-in_err-tally : goal.returns-in_err-tally
+returns-in_err-tally c = kept_trans c.loop-turn.invariant c.sow.ensures.kept
 
 pub returns-in_err-start : goal.returns-in_err-start
 returns-in_err-start c = kept_trans c.loop-turn.invariant c.sow.ensures.kept

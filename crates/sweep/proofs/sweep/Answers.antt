@@ -1,4 +1,4 @@
-use mathlib.Core.Path.{sym, subst₂, transport, ◌∙◌}
+use mathlib.Core.Path.{sym, subst, subst₂, transport, ◌∙◌}
 use Prim.Native.Nat.{ℕ, ◌-◌}
 use native.Mathlib.Omega.{arith}
 use Rattle.nodes.specs.Memory.{GoodAt}
@@ -12,9 +12,9 @@ use Rattle.sweep.proofs.sweep.Goals as goal
 pub retag-requires : goal.retag-requires
 retag-requires c = let e = c.trim-survey.ensures in record { laid = laid_fixed e.fixed c.requires.laid; found = found_after e.fixed e.trimmed e.found }
 
-pub overflow_sub-store-2 : goal.overflow_sub-store-2
-overflow_sub-store-2 c =
-    let e = c.trim-survey.ensures in let n = e.found.count in let f = (fixed_trans e.fixed c.retag.ensures.fixed).slots in let q = marks_limit c.requires in
+pub overflow_sub-store : goal.overflow_sub-store
+overflow_sub-store c =
+    let e = c.trim-survey.ensures in let n = e.found.count in let k = c.limit.ensures in let f = (fixed_trans e.fixed c.retag.ensures.fixed).slots in let q = marks_limit c.requires in
     omega arith
 
 pub returns : goal.returns
@@ -27,7 +27,7 @@ returns c =
       same = d.same ∙ e.same;
       cut = record { at = f.at; slots = f.slots; top = f.top; long = f.long };
       swept = w;
-      good = transport (λ i. GoodAt (sym f.at i) (sym f.slots i) (sym f.top i) (limit (sym f.slots i) - c.trim-survey.result.count) (mem z))
-          (good_swept s.at s.slots s.top (mem s) (mem z) c.requires w (limit s.slots - c.trim-survey.result.count) (omega arith));
+      good = subst (λ (k : ℕ). GoodAt z.at z.slots z.top (k - c.trim-survey.result.count) (mem z)) (sym c.limit.ensures) (transport (λ i. GoodAt (sym f.at i) (sym f.slots i) (sym f.top i) (limit (sym f.slots i) - c.trim-survey.result.count) (mem z))
+          (good_swept s.at s.slots s.top (mem s) (mem z) c.requires w (limit s.slots - c.trim-survey.result.count) (omega arith)));
       stays = stays_swept s.at s.slots s.top (mem s) (mem z) c.requires w;
     }

@@ -1,11 +1,10 @@
-use mathlib.Core.Path.{◌≡◌, sym, subst, subst₂}
-use Prim.Native.Nat.{ℕ, ◌+◌}
+use mathlib.Core.Path.{sym, subst₂}
+use Prim.Native.Nat.{◌+◌}
 use native.Mathlib.Omega.{arith}
 use Rattle.nodes.specs.Memory.{tag}
 use Rattle.slots.specs.declared.Store.{Store}
 use Rattle.slots.specs.Stores.{mem}
 use Rattle.sweep.specs.declared.Survey.{Survey}
-use Rattle.slots.proofs.Stores.{laid_fixed}
 use Rattle.sweep.proofs.Reach.{marks_few}
 use Rattle.sweep.proofs.FirstPass.{Trimming, trimming_start, trimming_skip, trimming_more}
 use Rattle.sweep.proofs.trim.Goals as goal
@@ -13,12 +12,6 @@ use Rattle.sweep.proofs.trim.Goals.{then-is_marked, else-is_marked}
 
 pub loop-slot-init : goal.loop-slot-init
 loop-slot-init c = trimming_start c.args.store.now
-
-pub is_marked-requires : goal.is_marked-requires
-is_marked-requires c = let i = c.loop-slot.invariant.fixed in let t = c.loop-slot-test.true in record { laid = laid_fixed i c.requires; within = omega arith }
-
-pub trim_note-requires : goal.trim_note-requires
-trim_note-requires c = let i = c.loop-slot.invariant.fixed in let t = c.loop-slot-test.true in record { laid = laid_fixed i c.requires; within = (omega arith, omega arith) }
 
 pub with_slot-survey-requires : goal.with_slot-survey-requires
 with_slot-survey-requires c =
@@ -33,9 +26,3 @@ loop-slot-preserved c = elim c.if-is_marked.branch [
   | else-is_marked w ↦
       subst₂ (λ (s : Store) (x : Survey). Trimming c.args.store.now s (c.loop-slot.slot + 1) x) (sym w.store-is) (sym w.survey-is) (trimming_skip c.loop-slot.invariant w.if-is_marked.ensures)
 ]
-
-pub returns : goal.returns
-returns c =
-    let s = c.args.store.now in let t = c.loop-slot-test.false in let l = c.loop-slot.auto.slot-end in let e : c.loop-slot.slot ≡ s.slots = omega arith in
-    let i = subst (λ (k : ℕ). Trimming s c.loop-slot.store k c.loop-slot.survey) e c.loop-slot.invariant in
-    record { same = i.same; fixed = i.fixed; trimmed = i.trimmed; found = i.found }

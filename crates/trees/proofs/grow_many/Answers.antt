@@ -1,19 +1,13 @@
-use Rattle.std.proofs.Common.{refl, arith}
-use Rattle.trees.specs.Growing.{grown}
-use Rattle.trees.proofs.Rows.{taken_trans, row_one, row_on, row_more, row_is}
+use Rattle.std.proofs.Common.{arith}
+use Rattle.trees.proofs.Rows.{taken_trans, row_on, row_more, row_is}
 use Rattle.trees.proofs.Growing.{inside_row}
 use Rattle.trees.proofs.grow_many.Goals as goal
-
-pub loop-x-init : goal.loop-x-init
-loop-x-init c =
-    let h = c.in_ok-hold.ensures in let l = c.args.leaves in let d = c.args.depth in
-    row_one (λ _. grown l d (record { x = 0; y = 0 })) (λ x. grown l d (record { x = x; y = 0 })) refl h.0 h.1 h.2
 
 pub grow-requires : goal.grow-requires
 grow-requires c =
     let v = c.loop-x.invariant in let n = c.in_ok-hold.ensures.0.from in let f = v.taken.from in let e = v.taken.last.ends in let l = v.len in
     let r = c.requires.room in let i = c.requires.inside in let d = i.0 in let b = c.loop-x-test.true in
-    record { good = v.taken.good; room = omega arith; inside = (omega arith, (inside_row c.args.depth c.loop-x.x d (omega arith), i.1.1)) }
+    record { good = v.taken.good; room = omega arith; inside = (omega arith, inside_row c.args.depth c.loop-x.x d (omega arith)) }
 
 pub returns-in-Err : goal.returns-in-Err
 returns-in-Err c =
@@ -26,5 +20,5 @@ loop-x-preserved c =
 
 pub returns : goal.returns
 returns c =
-    let r = c.loop-x.invariant in let l = r.len in let b = c.loop-x.auto.x-end (let n = c.requires.inside.1.0 in omega arith) in let t = c.loop-x-test.false in
+    let r = c.loop-x.invariant in let l = r.len in let b = c.loop-x.auto.x-end (let n = c.requires.inside.1 in omega arith) in let t = c.loop-x-test.false in
     (taken_trans c.in_ok-hold.ensures.0 r.taken, omega arith, row_is r, omega arith)

@@ -1,9 +1,10 @@
 use Rattle.std.proofs.Common.{ℕ, ap, subst, arith}
 use Rattle.leaf.specs.AsSquares.{word_square}
 use Rattle.slots.specs.Stores.{Is}
-use Rattle.holds.proofs.Chain.{full_popped}
-use Rattle.trees.specs.Growing.{mix, Holds}
-use Rattle.trees.proofs.Rows.{taken_new, taken_from, taken_trans, taken_end, row_new, row_here, row_on, row_more, row_holds, row_is}
+use Rattle.trees.specs.Mixed.{mix}
+use Rattle.trees.specs.Growing.{Made, Holds}
+use Rattle.trees.proofs.Growing.{made_leaf, also_row, also_gone, refused}
+use Rattle.trees.proofs.Rows.{taken_new, taken_from, taken_trans, row_new, row_here, row_on, row_holds, row_is}
 use Rattle.trees.proofs.plant.Goals as goal
 
 pub loop-k-init : goal.loop-k-init
@@ -11,17 +12,18 @@ loop-k-init c =
     let e = c.in_ok-number.ensures in let f = c.take-hold.ensures in
     row_here (row_new (λ j. word_square (mix c.args.seed j)) (subst (Is c.intern_leaf.new.store 0 c.in_ok-number.number) (ap word_square c.mix.ensures) e.is.is) f.same f.good f.pushed f.is)
 
-pub returns-in-Err : goal.returns-in-Err
-returns-in-Err c =
-    let e = c.in_ok-number.ensures in let f = c.take-hold.ensures in let i = c.in-Err.ensures in let g = c.release.ensures in
+pub returns-in_err-hold : goal.returns-in_err-hold
+returns-in_err-hold c =
+    let e = c.in_ok-number.ensures in let f = c.take-hold.ensures in let i = c.intern_leaf-made.ensures in
     let k = taken_from (record { same = e.same; good = e.good; still = e.still; top = e.top }) (taken_new f.same f.good f.pushed f.is) in
-    (taken_end (taken_trans k (row_on c.loop-k.invariant (record { same = i.same; good = i.good; still = i.still; top = i.top })).taken) g.same g.good g.popped, full_popped g.popped i.is)
+    let gone = also_gone 0 _ c.intern_leaf-made.result _ (taken_trans k (row_on c.loop-k.invariant (record { same = i.same; good = i.good; still = i.still; top = i.top })).taken) (made_leaf _ _ _ i.is) c.in_err-hold.ensures in
+    refused _ _ _ c.from_residual-in_err-hold.result c.from_residual-in_err-hold.ensures.0 gone
 
 pub loop-k-preserved : goal.loop-k-preserved
 loop-k-preserved c =
-    let i = c.in-Ok.ensures in let f = c.add.ensures in
-    row_more (row_on c.loop-k.invariant (record { same = i.same; good = i.good; still = i.still; top = i.top }))
-    (subst (Is c.intern_leaf-in-loop-k.new.store 0 c.in-Ok.number) (ap word_square c.mix-in-loop-k.ensures) i.is.is) f.same f.good f.pushed f.more
+    let i = c.intern_leaf-made.ensures in
+    also_row c.intern_leaf-made.result (row_on c.loop-k.invariant (record { same = i.same; good = i.good; still = i.still; top = i.top }))
+    (subst (λ (m : ℕ). Made c.intern_leaf-made.new.store 0 (word_square m) c.intern_leaf-made.result) c.mix-in-loop-k.ensures (made_leaf _ _ _ i.is)) c.in_ok-hold.ensures
 
 pub returns : goal.returns
 returns c =

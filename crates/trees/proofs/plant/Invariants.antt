@@ -1,5 +1,5 @@
 use Rattle.leaf.specs.AsSquares.{word_square}
-use Rattle.trees.specs.Growing.{mix}
+use Rattle.trees.specs.Mixed.{mix}
 use Rattle.trees.proofs.Rows.{Row}
 use Rattle.trees.proofs.plant.Given as goal
 

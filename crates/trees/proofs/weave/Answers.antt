@@ -1,5 +1,5 @@
-use Rattle.std.proofs.Common.{◌≡◌, subst}
-use Rattle.nodes.specs.declared.Quarters.{Quarters}
+use Rattle.std.proofs.Common.{ℕ, ◌≡◌, subst}
+use Rattle.model.specs.declared.quarters.Quarters.{Quarters}
 use Rattle.store.specs.Interning.{Interned}
 use Rattle.trees.proofs.Rows.{holds_kept}
 use Rattle.trees.specs.Growing.{Kept, woven}
@@ -13,5 +13,5 @@ returns c =
     record {
       kept = k;
       bed = holds_kept k c.requires.bed;
-      is = subst (λ (q : Quarters). Interned c.args.store.now c.intern.new.store 0 q c.intern.result) four e.is;
+      is = subst (λ (q : Quarters ℕ). Interned c.args.store.now c.intern.new.store 0 q c.intern.result) four e.is;
     }

@@ -1,9 +1,11 @@
-use Rattle.std.proofs.Common.{◌+◌, ◌*◌}
-use Rattle.leaf.specs.Words.{digit}
+use Rattle.std.proofs.Common.{◌+◌, ◌*◌, arith}
 use Rattle.leaf.proofs.Adding.{around}
 use Rattle.leaf.proofs.adders.neighbour_sums.Goals as goal
 
 pub returns : goal.returns
 returns c x y hx kx hy ky =
-    let r = c.add8.result in
-    around c.args.w x y hx kx hy ky (λ k. digit r.ones k + 2 * digit r.twos k + 4 * digit r.fours k + 8 * digit r.eights k) c.add8.ensures
+    let k = 8 * y + x in
+    let sum = around c.args.w _ _ x y hx kx hy ky c.add3-row.ensures in
+    let beside = c.add2-beside.ensures k in let ones = c.add3-ones.ensures k in let carries = c.add3-carries.ensures k in
+    let twos = c.add2-twos.ensures k in let fours = c.add2-fours.ensures k in
+    omega arith

@@ -7,5 +7,4 @@ use Rattle.listplane.proofs.ListPlaneField.count.Goals as goal
 
 pub returns : goal.returns
 returns c =
-    let s = c.args.self.now.list in
-    capped_few s.len c.requires.staged.few ∙ ap capped (sym (tab_length (entry c.args.mem.now s.at) 0 s.len))
+    let s = c.args.self.now.list in capped_few s.len c.requires.few ∙ ap capped (sym (tab_length (entry c.args.mem.now s.at) 0 s.len))

@@ -1,15 +1,13 @@
-use Rattle.std.proofs.Common.{[], ap}
+use Rattle.std.proofs.Common.{[]}
+use Rattle.model.specs.Rules.{rule_of}
 use Rattle.model.specs.World.{world_of}
-use Rattle.rules.specs.Laws.{law}
-use Rattle.rules.specs.declared.Rule.{Rule}
 use Rattle.lent.specs.Stretches.{tab}
 use Rattle.listplane.proofs.Changes.{empty_staged}
 use Rattle.listplane.proofs.ListPlaneField.open.Goals as goal
 
-pub returns : goal.returns
+pub returns-clause-good : goal.returns-clause-good
+returns-clause-good c = empty_staged c.args.mem.now c.requires
+
+pub returns-clause-world : goal.returns-clause-world
 unfolding tab
-returns c =
-    record {
-      good = record { staged = empty_staged c.args.mem.now c.requires; rule = c.life.ensures.good };
-      world = ap (λ (r : Rule). world_of (law r) []) c.life.ensures.is;
-    }
+returns-clause-world c = let born = c.life.ensures.born in let stays = c.life.ensures.stays in λ i. world_of (rule_of (born i) (stays i)) []

@@ -1,10 +1,9 @@
-use Rattle.std.proofs.Common.{refl}
-use Rattle.lent.specs.Mem.{mem}
+use Rattle.lent.specs.Lists.{words_of, stretch_of}
 use Rattle.generation.proofs.RowLaws.{rows_slide}
 use Rattle.generation.proofs.scan.Rows.slide.Goals as goal
 
-pub returns : goal.returns
-returns c =
-    let r = rows_slide (mem c.args.words.now) c.args.from c.args.self.now c.row_end-end.result c.requires.0 c.requires.1.0 c.requires.1.1
-    (record { low = c.row_end-end.ensures.low; high = c.row_end-end.ensures.high; inside = c.row_end-end.ensures.inside; ends = c.row_end-end.ensures.ends }) in
-    record { rows = r.0; top = refl; falls = r.1 }
+pub returns-clause-rows : goal.returns-clause-rows
+returns-clause-rows c =
+    let e = c.row_end-end.ensures in
+    (rows_slide (words_of c.args.list) (stretch_of c.args.list) c.args.self.now c.row_end-end.result c.args.list.listed c.requires.0 c.requires.1
+    (record { low = e.low; high = e.high; inside = e.inside; ends = e.ends })).0

@@ -1,13 +1,8 @@
-use Rattle.std.proofs.Common.{refl, ap}
-use Rattle.lent.specs.Mem.{mem}
-use Rattle.generation.specs.declared.scan.Cursor.{Cursor}
+use Rattle.lent.specs.Lists.{words_of, stretch_of}
 use Rattle.generation.proofs.RowLaws.{window_start}
 use Rattle.generation.proofs.scan.Sweep.start.Goals as goal
 
-pub returns : goal.returns
-returns c =
-    record {
-      window = window_start (mem c.args.words.now) c.args.from c.args.rows c.new.result c.new-2.result c.new-3.result c.requires.0 c.requires.1 c.new.ensures c.new-2.ensures c.new-3.ensures;
-      row = ap (λ (k : Cursor). k.row) c.new.ensures;
-      x = refl;
-    }
+pub returns-clause-window : goal.returns-clause-window
+returns-clause-window c =
+    window_start (words_of c.args.list) (stretch_of c.args.list) c.args.rows c.new.result c.new-2.result c.new-3.result c.args.list.listed c.requires
+    c.new.ensures c.new-2.ensures c.new-3.ensures

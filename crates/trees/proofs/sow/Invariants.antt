@@ -1,6 +1,0 @@
-use Rattle.std.proofs.Common.{◌≤◌}
-use Rattle.trees.specs.Growing.{Kept}
-use Rattle.trees.proofs.sow.Given as goal
-
-abbrev pub invariant-loop-turn : goal.invariant-loop-turn
-invariant-loop-turn l = Kept l.initial.store l.store × (l.tally.collections ≤ l.turn)
