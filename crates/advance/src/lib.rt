@@ -162,7 +162,8 @@ impl Larger {
         let four = Quarters::of(|row, column| parts.number(store, first + 3 * row + column));
         if self.is_longest() {
             let number = intern(store, self.below, four)?;
-            advance_number(store, self.inner(), self.below, number)
+            let inner = self.inner();
+            advance_number(store, inner, self.below, number)
         } else {
             middle_of(store, self.below, four)
         }

@@ -1,5 +1,5 @@
 -- To find a cell by halving.
-use Rattle.std.proofs.Common.{◌≡◌, ℕ, ◌<◌, ◌≤◌, Bool, true, false, ◌&&◌, ◌||◌, ltb, T, ◌⊎◌, List, [], ◌∷◌, length, get_or, ℤ, MatchBool, sym, ap, ◌∙◌, subst, inl, inr, arith}
+use Rattle.std.proofs.Common.{◌≡◌, ℕ, ◌-◌, ◌<◌, ◌≤◌, Bool, true, false, ◌&&◌, ◌||◌, ltb, T, ◌⊎◌, List, [], ◌∷◌, length, get_or, ℤ, MatchBool, sym, refl, ap, ◌∙◌, subst, inl, inr, arith}
 use native.Mathlib.Decide.{dec_lt}
 use lib.Dec.{eqb}
 use Rattle.std.specs.List.Sorted.{IsPartitionedBy, IsPartitionPoint}
@@ -11,7 +11,7 @@ use Rattle.lent.specs.declared.Stretch.{Stretch}
 use Rattle.lent.specs.Stretches.{to_z, row_at, col_at, cells_in, Listed}
 use Rattle.lent.specs.Entries.{Pairs}
 use Rattle.lent.proofs.Listing.{to_z_inj, listed_order, listed_lives, listed_find}
-use Rattle.cells.specs.Places.{Earlier, Place, Holds}
+use Rattle.cells.specs.Places.{Earlier, Later, Place, Holds}
 
 pub earlier_down : (m : List ℕ) (s : Stretch) → Listed m s → (row col j k : ℕ) → j ≤ k → k < s.len → Earlier m s k row col → Earlier m s j row col
 earlier_down m s h row col j k a b e = go (dec_lt j k) e
@@ -20,6 +20,29 @@ earlier_down m s h row col j k a b e = go (dec_lt j k) e
     go (yes l) (inl p) = elim (listed_order m s h j k l b) [ inl o ↦ inl (omega arith) | inr o ↦ let o0 = o.0 in inl (omega arith) ]
     go (yes l) (inr (p, q)) = elim (listed_order m s h j k l b) [ inl o ↦ inl (omega arith) | inr o ↦ let o0 = o.0 in let o1 = o.1 in inr (omega arith, omega arith) ]
     go (no l) e = let z : k ≡ j = omega arith in subst (λ (i : ℕ). Earlier m s i row col) z e
+
+earlier_or_later : (a b row col : ℕ) → ((a < row) ⊎ ((a ≡ row) × (b < col))) ⊎ ((row < a) ⊎ ((a ≡ row) × (col ≤ b)))
+earlier_or_later a b row col = grind arith
+
+apart : (a b row col : ℕ) → (a < row) ⊎ ((a ≡ row) × (b < col)) → (row < a) ⊎ ((a ≡ row) × (col ≤ b)) → ⊥
+apart a b row col e l = grind arith
+
+-- A place is known by the cells beside it.
+place_beside : (m : List ℕ) (s : Stretch) → Listed m s → (row col i : ℕ) → i ≤ s.len → (0 < i → Earlier m s (i - 1) row col) → (i < s.len → Later m s i row col) → Place m s row col i
+place_beside m s h row col i b e l =
+    record {
+      high = b;
+      early = λ k a. earlier_down m s h row col k (i - 1) (omega arith) (omega arith) (e (omega arith));
+      late = λ k a u. elim (earlier_or_later (row_at m s.at k) (col_at m s.at k) row col) [
+        | inl f ↦ absurd (apart _ _ row col (earlier_down m s h row col i k a u f) (l (omega arith)))
+        | inr f ↦ f
+      ];
+    }
+
+pub place_told : (m : List ℕ) (s : Stretch) → Listed m s → (row col i : ℕ) → i ≤ s.len → (0 < i → Earlier m s (i - 1) row col) → (r : Bool) →
+    (i < s.len → r ≡ true → Later m s i row col) → (r ≡ false → (i < s.len) × Earlier m s i row col) → MatchBool r (Place m s row col i) (Place m s row col i → ⊥)
+place_told m s h row col i b e true l f = place_beside m s h row col i b e (λ u. l u refl)
+place_told m s h row col i b e false l f = λ p. let g = f refl in apart _ _ row col g.1 (p.late i (omega arith) g.0)
 
 -- whether the cell of these two words comes before the one of that row and column
 abbrev pub precedes : ℕ → ℕ → List ℕ → Bool

@@ -27,6 +27,26 @@ pub fn find(list: CellList, entry: Entry) -> usize
         .partition_point(|&[row, column]| Entry { row, column } < entry)
 }
 
+// Whether this is the place of a cell.
+fn is_place(list: CellList, entry: Entry, i: usize) -> bool
+    ensures { MatchBool result (Place (words_of list.entry) (stretch_of list.entry) entry.row entry.column i) (Place (words_of list.entry) (stretch_of list.entry) entry.row entry.column i → ⊥) }
+{
+    i <= list.len()
+        && (i == 0 || list.at(i - 1) < entry)
+        && (i == list.len() || list.at(i) >= entry)
+}
+
+// The place of a cell, with a guess that is tried first.
+fn find_near(list: CellList, entry: Entry, near: usize) -> usize
+    ensures { Place (words_of list.entry) (stretch_of list.entry) entry.row entry.column result }
+{
+    if is_place(list, entry, near) {
+        near
+    } else {
+        find(list, entry)
+    }
+}
+
 // Whether the i-th cell is that one.
 pub fn holds(list: CellList, i: usize, entry: Entry) -> bool
     ensures { MatchBool result (Holds (words_of list.entry) (stretch_of list.entry) i entry.row entry.column) (Holds (words_of list.entry) (stretch_of list.entry) i entry.row entry.column → ⊥) }
@@ -43,6 +63,20 @@ pub fn lives_at(list: CellList, cell: Cell) -> bool
     }
     let entry = Entry::from_cell(cell);
     holds(list, find(list, entry), entry)
+}
+
+// The same, with a guess at its place. Gives one for the next cell of its row too.
+fn lives_near(list: CellList, cell: Cell, near: usize) -> (bool, usize)
+    ensures { result.0 ≡ lives cell.x cell.y (cells_of list.entry) }
+{
+    if !is_far(cell) {
+        let entry = Entry::from_cell(cell);
+        let place = find_near(list, entry, near);
+        let lives = holds(list, place, entry);
+        (lives, place + usize::from(lives))
+    } else {
+        (false, near)
+    }
 }
 
 // Puts a cell that isn't in the list at its place, i. Gives the stretch of the list afterwards.
@@ -80,13 +114,16 @@ pub fn remove(words: &mut Words, s: Stretch, i: usize) -> Stretch
     }
 }
 
-// The cell i places to the right of another, as 0 or 1.
-fn cell_byte(list: CellList, from: Cell, i: usize) -> u8
-    ensures { result ≡ (if lives (from.x +ℤ pos i) from.y (cells_of list.entry) then 1 else 0) }
+// The cell i places to the right of another, as 0 or 1, with such guesses.
+fn cell_byte(list: CellList, from: Cell, i: usize, near: usize) -> (u8, usize)
+    ensures { result.0 ≡ (if lives (from.x +ℤ pos i) from.y (cells_of list.entry) then 1 else 0) }
 {
     match from.x.checked_add_unsigned(i as u64) {
-        Some(x) => u8::from(lives_at(list, Cell { x, y: from.y })),
-        None => 0,
+        Some(x) => {
+            let (lives, next) = lives_near(list, Cell { x, y: from.y }, near);
+            (u8::from(lives), next)
+        }
+        None => (0, near),
     }
 }
 
@@ -94,7 +131,9 @@ fn cell_byte(list: CellList, from: Cell, i: usize) -> u8
 pub fn row(list: CellList, from: Cell, out: &mut [u8])
     ensures { out.new ≡ bits from.x from.y (length out.old) (cells_of list.entry) }
 {
+    // The living cells of a row follow one another in the list, so only the first has to be searched for.
+    let mut near = 0;
     for (i, byte) in out.iter_mut().enumerate() {
-        *byte = cell_byte(list, from, i);
+        (*byte, near) = cell_byte(list, from, i, near);
     }
 }

@@ -1,6 +1,5 @@
 -- What a line does to the plane, and what is answered to it: w is the plane before, w' the one after.
-use Rattle.std.specs.Prelude.{◌≡◌, ℕ, ◌+◌, ◌^◌, cond, List, length, Vec, Ok, Err, codes, decimal, Option, Result}
-use Rattle.std.specs.Global.{Global}
+use Rattle.std.specs.Prelude.{◌≡◌, ℕ, ◌+◌, ◌^◌, ◌≤◌, cond, List, length, take, Ok, Err, codes, decimal, Option, Result}
 use Rattle.model.specs.declared.Period.{Period as Return}
 use Rattle.model.specs.declared.Refusal.{Refusal}
 use Rattle.model.specs.Cells.{lives, bounds_of}
@@ -9,7 +8,6 @@ use Rattle.model.specs.Answers.{Ruled, Put as HasPut, Ran, Recurs}
 use Rattle.lines.specs.declared.Command.{Command}
 use Rattle.lines.specs.declared.Command.TheVariants.{Rule, Put, Run, Cell as OneCell, Count, Row, Bounds, Period}
 use Rattle.lines.specs.Commands.{command_of}
-use Rattle.answers.specs.Appends.{Appends}
 use Rattle.commands.specs.Texts.{refused, outcome, box_text, period_text, drawn}
 
 abbrev pub Does : Command → World → List ℕ → World → Type 0
@@ -34,8 +32,7 @@ Said line = Replied (command_of line)
 abbrev pub answer_bytes : ℕ
 answer_bytes = 2 ^ 20 + 128
 
--- an answer for which P holds stands at the end of the vector
-pub record Answered (P : List ℕ → World → Type 0) (before after : Vec ℕ Global) (w' : World) : Type 0 where
-  pub bytes : List ℕ
-  pub adds : Appends before after bytes
-  pub is : P bytes w'
+-- the command is done, and its answer is the first n bytes of the buffer
+pub record Answered (c : Command) (w : World) (out : List ℕ) (n : ℕ) (w' : World) : Type 0 where
+  pub within : n ≤ length out
+  pub does : Does c w (take n out) w'

@@ -1,5 +1,5 @@
 -- Answers as text.
-use Rattle.std.specs.Prelude.{ℕ, ◌+◌, List, ◌∷◌, ◌++◌, map, ℤ, Some, None, Ok, Err, codes, decimal, Option, Result}
+use Rattle.std.specs.Prelude.{◌≡◌, ℕ, ◌+◌, ◌≤◌, List, ◌∷◌, ◌++◌, map, length, take, ℤ, Some, None, Ok, Err, codes, decimal, Option, Result}
 use Rattle.std.specs.Fmt.{signed_decimal}
 use Rattle.model.specs.declared.Bounds.{Bounds}
 use Rattle.model.specs.declared.Period.{Period}
@@ -32,3 +32,8 @@ period_text (Err e) = refused e
 -- cells that are given as 0 and 1, as the characters for them
 abbrev pub drawn : List ℕ → List ℕ
 drawn = map (λ (b : ℕ). b + 48)
+
+-- the first n bytes of the buffer are bs
+pub record Holds (out : List ℕ) (n : ℕ) (bs : List ℕ) : Type 0 where
+  pub within : n ≤ length out
+  pub is : take n out ≡ bs

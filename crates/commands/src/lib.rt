@@ -3,9 +3,8 @@
 
 mod replies;
 
-ghost use Rattle.std.specs.Prelude.{◌≡◌};
-ghost use Rattle.answers.specs.Appends.{HasRoom};
-ghost use Rattle.commands.specs.Says.{Said, Does, Answered, answer_bytes};
+ghost use Rattle.std.specs.Prelude.{◌≡◌, ◌≤◌, length, take};
+ghost use Rattle.commands.specs.Says.{Said, Answered, answer_bytes};
 ghost use Rattle.commands.specs.Ends.{bare_of};
 
 use answers::{byte, number};
@@ -17,20 +16,20 @@ use replies::{draw, write_bounds, write_outcome, write_period, write_refusal};
 // The longest answer is a row of 2^20 cells; no other has more than 128 bytes.
 pub const ANSWER_BYTES: usize = (1 << 20) + 128;
 
-// Does what a line asks for, and puts the answer to it at the end of `out`. The line is given without its end, and the
-// answer has none.
-pub fn answer<F: Field>(field: &mut F, mem: &mut [u64], line: &[u8], out: &mut Vec<u8>)
+// Does what a line asks for, and writes the answer to it. The line is given without its end, and the answer has none.
+pub fn answer<F: Field>(field: &mut F, mem: &mut [u64], line: &[u8], out: &mut [u8]) -> usize
     requires good { F.good field.old mem.old }
-    requires room { HasRoom out.old answer_bytes }
+    requires room { answer_bytes ≤ length out.old }
     ensures good { F.good field.new mem.new }
-    ensures said { Answered (Said line.now (F.world field.old mem.old)) out.old out.new (F.world field.new mem.new) }
+    ensures within { result ≤ length out.new }
+    ensures said { Said line.now (F.world field.old mem.old) (take result out.new) (F.world field.new mem.new) }
 {
     match Command::try_from(line) {
         Ok(Command::Rule(sets)) => write_outcome(out, field.rule(mem, sets.born, sets.stays)),
         Ok(Command::Put { at, lives }) => write_outcome(out, field.put(mem, at, lives)),
         Ok(Command::Run { n }) => write_outcome(out, field.run(mem, n)),
-        Ok(Command::Cell { at }) => byte(out, if field.cell(mem, at) { b'1' } else { b'0' }),
-        Ok(Command::Count) => number(out, field.count(mem)),
+        Ok(Command::Cell { at }) => byte(out, 0, if field.cell(mem, at) { b'1' } else { b'0' }),
+        Ok(Command::Count) => number(out, 0, field.count(mem)),
         Ok(Command::Row { from, n }) => row(field, mem, from, n, out),
         Ok(Command::Bounds) => write_bounds(out, field.bounds(mem)),
         Ok(Command::Period { bound }) => write_period(out, field.period(mem, bound)),
@@ -39,16 +38,16 @@ pub fn answer<F: Field>(field: &mut F, mem: &mut [u64], line: &[u8], out: &mut V
 }
 
 // The plane gives the cells as 0 and 1, in the place where their characters are to stand.
-fn row<F: Field>(field: &F, mem: &[u64], from: Cell, n: u32, out: &mut Vec<u8>)
+fn row<F: Field>(field: &F, mem: &[u64], from: Cell, n: u32, out: &mut [u8]) -> usize
     requires good { F.good field.now mem.now }
-    requires room { HasRoom out.old n }
-    ensures { Answered (Does (Command.Row from n) (F.world field.now mem.now)) out.old out.new (F.world field.now mem.now) }
+    requires room { n ≤ length out.old }
+    ensures { Answered (Command.Row from n) (F.world field.now mem.now) out.new result (F.world field.now mem.now) }
 {
-    let start = out.len();
-    out.resize(start + n as usize, 0).unwrap();
-    let cells = &mut out[start..];
+    let end = n as usize;
+    let cells = &mut out[0..end];
     field.row(mem, from, cells);
-    draw(cells)
+    draw(cells);
+    end
 }
 
 // A line without its end, which is a byte 10, or 13 and 10.

@@ -10,6 +10,6 @@ fn main(rt: HostRuntime) -> io::Result<()> {
     rt.stdin().read_to_end(&mut input)?;
     match answer(input.as_slice()) {
         Ok(middle) => rt.stdout().write_all(&middle_text(middle)),
-        Err(fault) => println!(rt; "{fault}"),
+        Err(fault) => println!(rt; "{}", fault.text()),
     }
 }

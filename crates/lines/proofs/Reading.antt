@@ -50,6 +50,11 @@ unfolding read_on
 no_plus [] e = refl
 no_plus (c ∷ cs) e = rw e refl
 
+-- a word with no byte has no `+` in front
+pub no_first : (bs : List ℕ) → length bs < 1 → get_or bs 0 0 ≢ 43
+no_first [] h e = omega (arith, e)
+no_first (c ∷ cs) h e = omega (arith, h)
+
 map_same : (o : Option ℕ) → option_map (λ n. n) o ≡ o
 map_same None = refl
 map_same (Some n) = refl

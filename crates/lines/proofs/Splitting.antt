@@ -1,7 +1,8 @@
 -- A line is its first word, and the words after the space that ends it.
-use Rattle.std.proofs.Common.{◌≡◌, Option, Some, None, sym, is_some, ℕ, suc, ◌+◌, ◌<◌, Bool, true, false, cond, not, eqb, List, [], ◌∷◌, length, take, drop, refl, ap, arith}
+use Rattle.std.proofs.Common.{◌≡◌, ◌≢◌, get_or, Option, Some, None, sym, is_some, ℕ, suc, ◌+◌, ◌<◌, Bool, true, false, cond, not, eqb, List, [], ◌∷◌, length, take, drop, refl, ap, arith}
 use Rattle.std.specs.List.{position_or_len, before_first, after_first}
-use Rattle.std.proofs.lemmas.Bool.{true≢false}
+use Rattle.std.proofs.lemmas.Bool.{true≢false, eq-eqb, ne_eqb}
+use Rattle.std.proofs.lemmas.List.Sums.{position_or_len_is}
 use Rattle.std.specs.Option.{option_map_or}
 use Rattle.lines.specs.declared.words.Words.{Words}
 use Rattle.lines.specs.Left.{left}
@@ -39,6 +40,18 @@ words_whole (c ∷ cs) h = go (eqb c 32) (words_whole cs) h
         cond t ([] ∷ words_of cs) (longer c (words_of cs)) ≡ (c ∷ cs) ∷ []
     go true i l = absurd (omega (arith, l))
     go false i l = ap (longer c) (i (omega arith))
+
+-- the first word ends at the first space
+pub words_at : (bs : List ℕ) (i : ℕ) → i < length bs → get_or bs i 0 ≡ 32 → ((k : ℕ) → k < i → get_or bs k 0 ≢ 32) →
+    words_of bs ≡ take i bs ∷ words_of (drop (i + 1) bs)
+words_at bs i inside here before =
+    let found : position_or_len is_space bs ≡ i = position_or_len_is is_space bs i 0 (omega arith) (λ k l. ne_eqb _ 32 (before k l)) (λ l. eq-eqb _ 32 here) in
+    rw found at (words_cut bs (omega (arith, found, inside)))
+
+-- with no space there is one word
+pub words_none : (bs : List ℕ) → ((k : ℕ) → k < length bs → get_or bs k 0 ≢ 32) → words_of bs ≡ bs ∷ []
+words_none bs before =
+    words_whole bs (position_or_len_is is_space bs (length bs) 0 (omega arith) (λ k l. ne_eqb _ 32 (before k l)) (λ l. absurd (omega (arith, l))))
 
 some_longer : (c : ℕ) (ws : List Word) → no_words_left (longer c ws) ≡ false
 some_longer c [] = refl

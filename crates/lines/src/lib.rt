@@ -48,7 +48,8 @@ fn printable(line: &[u8]) -> Option<&str>
     ensures { MatchOption result (is_line_text line.now ≡ false) (λ text. (is_line_text line.now ≡ true) × (text.now ≡ line.now)) }
 {
     if is_text(line) {
-        str::from_utf8(line).ok()
+        // Safe, since printable ASCII is UTF-8; `str::from_utf8` would go over the line once more.
+        Some(unsafe { str::from_utf8_unchecked(line) })
     } else {
         None
     }

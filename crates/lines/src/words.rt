@@ -31,6 +31,7 @@ impl<'a> Words<'a> {
     }
 
     // The next two words as a cell.
+    #[inline(always)]
     pub fn cell(&mut self) -> Option<Cell>
         ensures is { result ≡ cell_first (left self.old) }
         ensures taken { OnSome result (left self.new ≡ rest (rest (left self.old))) }
@@ -41,6 +42,7 @@ impl<'a> Words<'a> {
     }
 
     // The next word as one of the two numbers of a cell.
+    #[inline(always)]
     fn place(&mut self) -> Option<i64>
         ensures is { result ≡ first place_of (left self.old) }
         ensures taken { left self.new ≡ rest (left self.old) }
@@ -50,6 +52,7 @@ impl<'a> Words<'a> {
     }
 
     // The next word as `0` or `1`.
+    #[inline(always)]
     pub fn flag(&mut self) -> Option<bool>
         ensures is { result ≡ first flag_of (left self.old) }
         ensures taken { left self.new ≡ rest (left self.old) }
@@ -78,10 +81,10 @@ impl<'a> Iterator for Words<'a> {
     // Takes the next word, up to a space or the end of the line.
     fn next(&mut self) -> Option<&'a str> {
         let text = self.rest?;
-        match text.split_once(' ') {
-            Some((word, rest)) => {
-                self.rest = Some(rest);
-                Some(word)
+        match text.as_bytes().iter().position(|c| *c == b' ') {
+            Some(end) => {
+                self.rest = Some(&text[end + 1..]);
+                Some(&text[..end])
             }
             None => {
                 self.rest = None;
@@ -97,9 +100,8 @@ where
     N::Err: Drop,
     ensures { IsParsed N.from_str_gives word.now result }
 {
-    if word.starts_with('+') {
-        None
-    } else {
-        word.parse().ok()
+    match word.as_bytes() {
+        [b'+', ..] => None,
+        _ => word.parse().ok(),
     }
 }

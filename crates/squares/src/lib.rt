@@ -18,7 +18,9 @@ pub fn level(store: &Store, number: usize) -> u64
 {
     match store.state(number) {
         State::Square(depth) => depth as u64 + 3,
-        State::Free | State::Empty => 0,
+        // no square: the tag and 1, as for squares
+        State::Free => 2,
+        State::Empty => 1,
     }
 }
 

@@ -82,6 +82,7 @@ pub fn intern_leaf(store: &mut Store, cells: u64) -> Result<usize, Full>
     intern_node(store, Node::leaf(cells))
 }
 
+#[inline(always)]
 fn intern_node(store: &mut Store, node: Node) -> Result<usize, Full>
     requires good { Good store.old }
     requires proper { Proper store.old.slots (table store.old) node }
@@ -111,7 +112,8 @@ fn make_room(store: &mut Store, node: Node)
     if node.is_leaf() {
         collect(store);
     } else {
-        collect_but(store, node.depth() - 1, node.quarters());
+        let quarters = node.quarters();
+        collect_but(store, node.depth() - 1, quarters);
     }
 }
 

@@ -200,7 +200,7 @@ pub Larger::quarter-advance_number-requires : goal.Larger::quarter-advance_numbe
 Larger::quarter-advance_number-requires t c =
     let v = c.args.store.now in let w = c.intern.new.store in let n = c.requires.0 in let e = c.in_ok-number.ensures in (
       omega arith,
-      four_loose v w c.args.self c.args.i c.in_ok-number.number c.inner.result c.of-four.result n.rooted e.good (record { still = e.still; top = e.top }) (fours c.args.store.now c.args.parts.now c.args.self c.args.i c.of-four.result c.requires.0 c.requires.1 (search rules) (search rules) (search rules) (search rules)) e.is c.inner.ensures,
+      four_loose v w c.args.self c.args.i c.in_ok-number.number c.inner-inner.result c.of-four.result n.rooted e.good (record { still = e.still; top = e.top }) (fours c.args.store.now c.args.parts.now c.args.self c.args.i c.of-four.result c.requires.0 c.requires.1 (search rules) (search rules) (search rules) (search rules)) e.is c.inner-inner.ensures,
     )
 
 pub Larger::quarter-returns-in_ok-number : goal.Larger::quarter-returns-in_ok-number
@@ -208,7 +208,7 @@ Larger::quarter-returns-in_ok-number t c =
     let v = c.args.store.now in let w = c.intern.new.store in let u = c.advance_number.new.store in let e = c.in_ok-number.ensures in let a = c.advance_number.ensures in
     record {
       same = a.same ∙ e.same;
-      part = four_leap v w u c.args.self c.args.i c.in_ok-number.number c.inner.result c.of-four.result c.advance_number.result c.if-is_longest.ensures c.inner.ensures
+      part = four_leap v w u c.args.self c.args.i c.in_ok-number.number c.inner-inner.result c.of-four.result c.advance_number.result c.if-is_longest.ensures c.inner-inner.ensures
           (record { still = e.still; top = e.top }) (fours c.args.store.now c.args.parts.now c.args.self c.args.i c.of-four.result c.requires.0 c.requires.1 (search rules) (search rules) (search rules) (search rules)) e.is a.leap;
     }
 

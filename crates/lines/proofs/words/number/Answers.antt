@@ -1,11 +1,15 @@
-use Rattle.std.proofs.Common.{sym, ◌∙◌, arith}
-use Rattle.std.proofs.lemmas.Bool.{eq-eqb, true≢false}
+use Rattle.std.proofs.Common.{rules, ◌<◌, length}
+use Rattle.lines.proofs.Reading.{no_first}
 use Rattle.lines.proofs.words.number.Goals as goal
+use Rattle.lines.proofs.words.number.Goals.{in_default-via-then-as_bytes-lt1, in_default-via-else-as_bytes-lt1+in_default-1}
 
-pub returns-else-starts_with : goal.returns-else-starts_with
-returns-else-starts_with g c =
-    let tested = c.starts_with.ensures.byte (omega arith) (omega arith) (λ w o h. h) in
+pub returns-in_default : goal.returns-in_default
+returns-in_default g c =
     record {
-      plus = λ e. absurd (true≢false (sym (eq-eqb _ 43 e) ∙ sym tested ∙ c.if-starts_with.false));
+      plus = λ e.
+          elim c.in_default.branch [
+            | in_default-via-then-as_bytes-lt1 w ↦ let short : length c.args.word.now < 1 = search rules in absurd (no_first c.args.word.now short e)
+            | in_default-via-else-as_bytes-lt1+in_default-1 w ↦ search (rules, e)
+          ];
       other = λ n. (c.parse.result, c.parse.ensures.value, c.ok.ensures.value);
     }
