@@ -1,7 +1,7 @@
 -- What is written in parts is written as a whole, and how long a decimal is.
-use Rattle.std.proofs.Common.{◌≡◌, ℕ, ◌+◌, ◌-◌, ◌/◌, ◌%◌, ◌^◌, ◌<◌, ◌≤◌, true, false, List, [], ◌∷◌, ◌++◌, length, take, drop, set, ℤ, pos, negsuc, nat_abs, decimal, sym, refl, ap, ◌∙◌, subst, append_assoc, arith, length-append, w64, SFits, to_z, of_z}
-use lib.Signed.{lt_z}
-use Rattle.std.proofs.lemmas.Fmt.{decimal_digit, decimal_step, length-decimal-le}
+use Rattle.std.proofs.Common.{◌≡◌, ℕ, suc, ◌+◌, ◌-◌, ◌^◌, ◌<◌, ◌≤◌, true, false, List, [], ◌∷◌, ◌++◌, length, take, drop, set, ℤ, pos, negsuc, nat_abs, decimal, sym, refl, ap, ◌∙◌, subst, append_assoc, arith, length-append, w64, SFits, to_z, of_z}
+use lib.Signed.{lt_z, mag}
+use Rattle.std.proofs.lemmas.Fmt.{length-decimal-le}
 use Rattle.std.proofs.lemmas.List.{take_more_set, drop-set-lt, drop-drop}
 use Rattle.std.proofs.lemmas.Slice.{take-put_mid, drop-put_mid}
 use Rattle.std.proofs.lemmas.Int.{to_z-of_z}
@@ -39,9 +39,16 @@ wrote_part xs ys at k bs e h room =
       rest = drop-put_mid at k xs ys (at + length bs) (omega arith) (omega arith) (omega arith);
     }
 
--- the digits of a number of 63 bits and its sign
+-- how long numbers of 64 bits are at most, with a sign and without
+pub decimal_short : (n : ℕ) → n < 2 ^ 64 → length (decimal n) ≤ 20
+decimal_short n h = length-decimal-le 20 n (omega arith) (omega arith) h
+
 pub below_long : (n : ℕ) → n ≤ 2 ^ 63 → length (decimal n) ≤ 19
 below_long n h = length-decimal-le 19 n (omega arith) (omega arith) (omega arith)
+
+pub signed_short : (z : ℤ) → mag z < 2 ^ 63 → length (signed_text z) ≤ 20
+signed_short (pos n) h = decimal_short n (omega arith)
+signed_short (negsuc n) h = let d = below_long (suc n) (omega arith) in omega arith
 
 below_text : (z : ℤ) (n : ℕ) → lt_z z (pos 0) ≡ true → n ≡ nat_abs z → (45 ∷ []) ++ decimal n ≡ signed_text z
 below_text (pos k) n t e = absurd (omega (arith, ltb-true k 0 t))

@@ -58,25 +58,21 @@ pub fn holds(list: CellList, i: usize, entry: Entry) -> bool
 pub fn lives_at(list: CellList, cell: Cell) -> bool
     ensures { result ≡ lives cell.x cell.y (cells_of list.entry) }
 {
-    if is_far(cell) {
-        return false;
-    }
-    let entry = Entry::from_cell(cell);
-    holds(list, find(list, entry), entry)
+    lives_near(list, cell, usize::MAX).0
 }
 
 // The same, with a guess at its place. Gives one for the next cell of its row too.
+#[inline(always)]
 fn lives_near(list: CellList, cell: Cell, near: usize) -> (bool, usize)
     ensures { result.0 ≡ lives cell.x cell.y (cells_of list.entry) }
 {
-    if !is_far(cell) {
-        let entry = Entry::from_cell(cell);
-        let place = find_near(list, entry, near);
-        let lives = holds(list, place, entry);
-        (lives, place + usize::from(lives))
-    } else {
-        (false, near)
+    if is_far(cell) {
+        return (false, near);
     }
+    let entry = Entry::from_cell(cell);
+    let place = find_near(list, entry, near);
+    let lives = holds(list, place, entry);
+    (lives, place + usize::from(lives))
 }
 
 // Puts a cell that isn't in the list at its place, i. Gives the stretch of the list afterwards.

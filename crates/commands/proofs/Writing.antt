@@ -1,22 +1,13 @@
 -- What is written from the front of a buffer on.
-use Rattle.std.proofs.Common.{◌≡◌, ℕ, suc, ◌^◌, ◌<◌, ◌≤◌, List, ◌++◌, length, ℤ, pos, negsuc, decimal, ap, arith, w64, to_z, of_z}
+use Rattle.std.proofs.Common.{ℕ, ◌^◌, ◌<◌, ◌≤◌, List, ◌++◌, length, ℤ, ap, w64, to_z, of_z}
 use lib.Signed.{mag}
 use mir.ValLaws.{to_z-of_z}
-use Rattle.std.proofs.lemmas.Fmt.{length-decimal-le}
-use Rattle.std.specs.Fmt.{signed_decimal}
 use Rattle.answers.specs.Wrote.{Wrote}
 use Rattle.answers.proofs.Writing.{wrote_as}
 use Rattle.commands.specs.Texts.{also, Holds}
 
 pub holds_wrote : {xs ys : List ℕ} {r : ℕ} {bs : List ℕ} → Wrote xs ys 0 r bs → r ≤ length ys → Holds ys r bs
 holds_wrote w h = record { within = h; is = w.front }
-
-pub decimal_short : (n : ℕ) → n < 2 ^ 64 → length (decimal n) ≤ 20
-decimal_short n h = length-decimal-le 20 n (omega arith) (omega arith) h
-
-pub signed_short : (z : ℤ) → mag z < 2 ^ 63 → length (signed_decimal z) ≤ 20
-signed_short (pos n) h = decimal_short n (omega arith)
-signed_short (negsuc n) h = let d : length (decimal (suc n)) ≤ 19 = length-decimal-le 19 (suc n) (omega arith) (omega arith) (omega arith) in omega arith
 
 -- a number of 64 bits that is written as its bits say
 pub wrote_number : {xs ys : List ℕ} {p q : ℕ} (z : ℤ) → mag z < 2 ^ 63 → Wrote xs ys p q (also (to_z w64 (of_z w64 z))) → Wrote xs ys p q (also z)

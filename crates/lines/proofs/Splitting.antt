@@ -12,7 +12,7 @@ use Rattle.lines.specs.Splits.{Word, longer, words_of, no_words_left}
 abbrev is_space : ℕ → Bool
 is_space b = eqb b 32
 
-pub words_cut : (bs : List ℕ) → position_or_len is_space bs < length bs → words_of bs ≡ before_first is_space bs ∷ words_of (after_first is_space bs)
+words_cut : (bs : List ℕ) → position_or_len is_space bs < length bs → words_of bs ≡ before_first is_space bs ∷ words_of (after_first is_space bs)
 unfolding words_of
 words_cut [] h = absurd (omega (arith, h))
 words_cut (c ∷ cs) h = go (eqb c 32) (words_cut cs) h
@@ -28,7 +28,7 @@ words_cut (c ∷ cs) h = go (eqb c 32) (words_cut cs) h
         let two : suc n + 1 ≡ suc (n + 1) = omega arith in
         rw (one, two) (ap (longer c) (i (omega arith)))
 
-pub words_whole : (bs : List ℕ) → position_or_len is_space bs ≡ length bs → words_of bs ≡ bs ∷ []
+words_whole : (bs : List ℕ) → position_or_len is_space bs ≡ length bs → words_of bs ≡ bs ∷ []
 unfolding words_of
 words_whole [] h = refl
 words_whole (c ∷ cs) h = go (eqb c 32) (words_whole cs) h

@@ -4,21 +4,21 @@
 ghost use Rattle.std.specs.Prelude.{Bool, ◌≡◌, ℕ, suc, ◌+◌, ◌<◌};
 ghost use Rattle.model.specs.Squares.{Square, living};
 ghost use Rattle.leaf.specs.AsSquares.{word_square};
-ghost use Rattle.slots.specs.Stores.{Good, Has, Is};
+ghost use Rattle.slots.specs.Stores.{Good, Has, Is, table};
 ghost use Rattle.squares.specs.Parts.{QuartersOf};
 
 use model::Quarters;
 use slots::{SlotWord, State, Store};
 
-// The side of a square is 2 to the power of its level.
+// The side of a square is 2 to the power of its level, which is its state and 1.
 pub fn level(store: &Store, number: usize) -> u64
     requires good { Good store.now }
     requires within { number < store.now.slots }
-    ensures { (d : ℕ) → Has store.now d number → result ≡ d + 3 }
+    ensures level { (d : ℕ) → Has store.now d number → result ≡ d + 3 }
+    ensures state { result ≡ (table store.now number).state + 1 }
 {
     match store.state(number) {
         State::Square(depth) => depth as u64 + 3,
-        // no square: the tag and 1, as for squares
         State::Free => 2,
         State::Empty => 1,
     }

@@ -4,12 +4,12 @@ use Rattle.lent.specs.Lists.{words_of, stretch_of}
 use Rattle.cells.proofs.Finds.{lives_far, place_lives}
 use Rattle.cells.proofs.lives_near.Goals as goal
 
-pub returns-then-not-is_far : goal.returns-then-not-is_far
-returns-then-not-is_far c =
+pub returns-then-is_far : goal.returns-then-is_far
+returns-then-is_far c =
+    lives_far (words_of c.args.list) (stretch_of c.args.list) c.args.cell.x c.args.cell.y c.args.list.listed (subst T c.if-is_far.ensures tt)
+
+pub returns : goal.returns
+returns c =
     let e = c.from_cell-entry.result in let is = c.from_cell-entry.ensures in
     place_lives (words_of c.args.list) (stretch_of c.args.list) e.row e.column c.find_near-place.result c.args.cell.x c.args.cell.y c.holds-lives.result c.args.list.listed
     c.find_near-place.ensures (ap (λ (d : Cell). d.x) is) (ap (λ (d : Cell). d.y) is) c.holds-lives.ensures
-
-pub returns-else-not-is_far : goal.returns-else-not-is_far
-returns-else-not-is_far c =
-    lives_far (words_of c.args.list) (stretch_of c.args.list) c.args.cell.x c.args.cell.y c.args.list.listed (subst T c.if-not-is_far.ensures tt)

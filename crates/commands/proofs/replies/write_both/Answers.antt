@@ -1,6 +1,6 @@
 use Rattle.std.proofs.Common.{arith}
-use Rattle.answers.proofs.Writing.{wrote_both}
-use Rattle.commands.proofs.Writing.{wrote_number, signed_short}
+use Rattle.answers.proofs.Writing.{wrote_both, signed_short}
+use Rattle.commands.proofs.Writing.{wrote_number}
 use Rattle.commands.proofs.replies.write_both.Goals as goal
 
 pub byte-second-requires : goal.byte-second-requires

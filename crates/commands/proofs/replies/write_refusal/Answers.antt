@@ -1,6 +1,6 @@
 use Rattle.std.proofs.Common.{decimal, ap, ◌∙◌, arith}
-use Rattle.answers.proofs.Writing.{wrote_both, wrote_as}
-use Rattle.commands.proofs.Writing.{holds_wrote, decimal_short}
+use Rattle.answers.proofs.Writing.{wrote_both, wrote_as, decimal_short}
+use Rattle.commands.proofs.Writing.{holds_wrote}
 use Rattle.commands.proofs.replies.write_refusal.Goals as goal
 
 pub returns : goal.returns

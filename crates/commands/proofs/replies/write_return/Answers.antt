@@ -1,6 +1,6 @@
 use Rattle.std.proofs.Common.{decimal, ap, arith}
-use Rattle.answers.proofs.Writing.{wrote_both, wrote_as}
-use Rattle.commands.proofs.Writing.{holds_wrote, wrote_numbers, decimal_short}
+use Rattle.answers.proofs.Writing.{wrote_both, wrote_as, decimal_short}
+use Rattle.commands.proofs.Writing.{holds_wrote, wrote_numbers}
 use Rattle.commands.proofs.replies.write_return.Goals as goal
 
 pub write_both-requires : goal.write_both-requires
